@@ -1,0 +1,14 @@
+pub mod Tests
+pub mod Counts
+pub mod Lists
+pub mod Exchange
+pub mod Late
+pub mod Voting
+pub mod Tallies
+pub mod Ending
+pub mod Safety
+pub mod Records
+pub mod OneOrder
+pub mod Live
+pub mod Progress
+pub mod Uniform

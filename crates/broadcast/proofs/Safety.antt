@@ -1,0 +1,404 @@
+-- Every state that a run reaches is safe: the invariants of Voting, Tallies and Ending hold, and nothing names a posting that was
+-- not offered (N0). Each small step keeps them, each event is a composition of small steps. Assumes nothing.
+use Prim.Native.Nat.{ℕ, _-_, _<_, _≤_}
+use mathlib.Core.Path.{_≡_, refl, sym, ap, _∙_}
+use mathlib.Core.Logic.{_⊎_, inl, inr}
+use mathlib.Core.Bool.{Bool, true, false, cond, not, _&&_, _||_}
+use mathlib.Core.List.{List, [], _∷_}
+use lib.Dec.{eqb, leb}
+use Rattle.broadcast.specs.Lists.{In}
+use Rattle.broadcast.specs.Counts.{count, majority}
+use Rattle.broadcast.specs.Machine.{World, State, Cut, whole, part, at2, at3, with, toAll, goes, down, downIf, sendFirst, takeFirst, see, sendSecond, hearSecond, takeSecond, step, sendThird, hearThird, takeThird, finish, sendDeliver, enterPool, takeDeliver, get, deliverAt, append, advance, entryOf}
+use Rattle.broadcast.specs.Runs.{heardAt, heardOf, lateSecond, lateThird, onOffer, onFirst, onSecond, onThird, onDeliver, onOrder, onRead, countSecond, countThird, conclude, relay, nextAt, Event, offer, first, second, third, deliver, order, read, crash, Allowed, does, blank, Reached, start, next}
+use Rattle.broadcast.proofs.Late.{second-in-time, third-in-time}
+use Rattle.broadcast.proofs.Tests.{test, nope, either, and-l, eqb-true, eqb-yes, at2-true, from, stays, drops, join-new, leb-true, not-false, true-T}
+use Rattle.broadcast.proofs.Voting.{Voting, offer-voting, see-voting, sendSecond-voting, hearSecond-voting, takeSecond-voting, step-voting}
+use Rattle.broadcast.proofs.Tallies.{Tallies, step-tallies, sendThird-tallies, hearThird-tallies, takeThird-tallies}
+use Rattle.broadcast.proofs.Ending.{Ending, Fast, Slow, won, hearThird-ending, finish-ending, sendDeliver-ending, enterPool-ending, takeDeliver-ending, get-ending, append-ending}
+
+module _ (w : World) where
+  pub record Safe (s : State) : Type 0 where
+    pub voting : Voting w (s .offered) (s .sets) (s .seconds)
+    pub tallies : Tallies w (s .sets) (s .thirds)
+    pub ending : Ending w (s .thirds) (s .finished) (s .delivers) (s .oracle)
+    -- N0, in part
+    pub first-named : (m r p : ℕ) → s .firsts m r p ≡ true → s .offered m ≡ true
+    pub finished-named : (m : ℕ) → s .finished m ≡ true → s .offered m ≡ true
+
+  -- a posting goes by DELIVER, in a state
+  abbrev pub FastIn : State → ℕ → Type 0
+  FastIn s m = Fast w (s .thirds) (s .finished) (s .oracle) m
+
+  module _ (s : State) (i : Safe s) where
+    -- N0, the rest of it
+    pub seen-named : (p m : ℕ) → s .sets .seen p m ≡ true → s .offered m ≡ true
+    seen-named p m h = i .voting .named p m h
+
+    pub stepped-named : (p m : ℕ) → s .sets .stepped p m ≡ true → s .offered m ≡ true
+    stepped-named p m h = seen-named p m (i .voting .stepped-seen p m h)
+
+    pub second-named : (m r p : ℕ) → s .seconds .sent m r p ≡ true → s .offered m ≡ true
+    second-named m r p h = seen-named r m (i .voting .sent-seen m r p h)
+
+    pub third-named : (m r : ℕ) → s .thirds .sent m r ≡ true → s .offered m ≡ true
+    third-named m r h = stepped-named r m (i .tallies .sent-stepped m r h)
+
+    pub deliver-named : (m r p : ℕ) → s .delivers .sent m r p ≡ true → s .offered m ≡ true
+    deliver-named m r p h = i .finished-named m (i .ending .sent-fast m r p h .done)
+
+    pub got-named : (m p : ℕ) → s .delivers .got p m ≡ true → s .offered m ≡ true
+    got-named m p h = i .finished-named m (i .ending .got-fast m p h .done)
+
+    pub pool-named : (m : ℕ) → s .oracle .pool m ≡ true → s .offered m ≡ true
+    pool-named m h = i .finished-named m (i .ending .pool-slow m h .done)
+
+    pub log-named : (m : ℕ) → In m (s .oracle .log) → s .offered m ≡ true
+    log-named m h = i .finished-named m (i .ending .log-slow m h .done)
+
+    pub entry-named : (m x : ℕ) → In m (s .oracle .log) → s .oracle .entry m x ≡ true → s .offered x ≡ true
+    entry-named m x h e =
+        let (r, k) = i .tallies .union-held m x (sym (i .ending .log-slow m h .union x) ∙ e) in
+        stepped-named r x (i .voting .held-stepped r x k)
+
+    -- the small steps
+    safe-sendFirst : (m : ℕ) (c : Cut) → m < w .bound → Safe (sendFirst w s m c)
+    unfolding sendFirst
+    safe-sendFirst m c lt = record {
+      voting = offer-voting w s (i .voting) m lt;
+      tallies = i .tallies;
+      ending = i .ending;
+      first-named = λ x a b h. elim (from (at2 m (w .owner m) x a && toAll w c b) _ _ h) [
+        | inl u ↦ rw (eqb-yes m x ((at2-true m (w .owner m) x a (and-l (at2 m (w .owner m) x a) (toAll w c b) (u .0))) .0))
+        | inr o ↦ stays (eqb m x) _ (i .first-named x a b o)
+      ];
+      finished-named = λ x h. stays (eqb m x) _ (i .finished-named x h);
+    }
+
+    safe-takeFirst : (m r p : ℕ) → Safe (takeFirst w s m r p)
+    unfolding takeFirst
+    safe-takeFirst m r p = record {
+      voting = i .voting;
+      tallies = i .tallies;
+      ending = i .ending;
+      first-named = λ x a b h. i .first-named x a b ((drops (at3 m r p x a b) _ h) .1);
+      finished-named = i .finished-named;
+    }
+
+    safe-see : (m p : ℕ) → s .offered m ≡ true → Safe (see w s m p)
+    unfolding see
+    safe-see m p h = record {
+      voting = see-voting w s (i .voting) m p h;
+      tallies = record {
+        sent-stepped = i .tallies .sent-stepped;
+        heard-stepped = i .tallies .heard-stepped;
+        carried-held = i .tallies .carried-held;
+        has-held = i .tallies .has-held;
+        has-heard = i .tallies .has-heard;
+        union-held = i .tallies .union-held;
+        carried-all = i .tallies .carried-all;
+        union-all = i .tallies .union-all;
+      };
+      ending = i .ending;
+      first-named = i .first-named;
+      finished-named = i .finished-named;
+    }
+
+    safe-sendSecond : (m p : ℕ) (c : Cut) → s .sets .seen p m ≡ true → Safe (sendSecond w s m p c)
+    unfolding sendSecond
+    safe-sendSecond m p c h = record {
+      voting = sendSecond-voting w s (i .voting) m p c h;
+      tallies = i .tallies;
+      ending = i .ending;
+      first-named = i .first-named;
+      finished-named = i .finished-named;
+    }
+
+    safe-hearSecond : (m r p : ℕ) → s .seconds .sent m r p ≡ true → s .seconds .heard m r p ≡ false → Safe (hearSecond w s m r p)
+    unfolding hearSecond
+    safe-hearSecond m r p here fresh = record {
+      voting = hearSecond-voting w s (i .voting) m r p here fresh;
+      tallies = i .tallies;
+      ending = i .ending;
+      first-named = i .first-named;
+      finished-named = i .finished-named;
+    }
+
+    safe-takeSecond : (m r p : ℕ) → Safe (takeSecond w s m r p)
+    unfolding takeSecond
+    safe-takeSecond m r p = record {
+      voting = takeSecond-voting w s (i .voting) m r p;
+      tallies = i .tallies;
+      ending = i .ending;
+      first-named = i .first-named;
+      finished-named = i .finished-named;
+    }
+
+    safe-step : (m p : ℕ) → s .sets .seen p m ≡ true → Safe (step w s m p)
+    unfolding step
+    safe-step m p h = record {
+      voting = step-voting w s (i .voting) m p h;
+      tallies = step-tallies w s (i .tallies) (i .voting) m p h;
+      ending = i .ending;
+      first-named = i .first-named;
+      finished-named = i .finished-named;
+    }
+
+    safe-sendThird : (m p : ℕ) (c : Cut) → s .sets .stepped p m ≡ true → Safe (sendThird w s m p c)
+    safe-sendThird m p c h = record {
+      voting = unfold sendThird in i .voting;
+      tallies = unfold sendThird in sendThird-tallies w s (i .tallies) m p c h;
+      ending = unfold sendThird in record {
+        sent-fast = λ x a b k. thirds-fast x (i .ending .sent-fast x a b k);
+        got-fast = λ x a k. thirds-fast x (i .ending .got-fast x a k);
+        pool-slow = λ x k. thirds-slow x (i .ending .pool-slow x k);
+        log-slow = λ x k. thirds-slow x (i .ending .log-slow x k);
+        pool-log = i .ending .pool-log;
+        log-once = i .ending .log-once;
+      };
+      first-named = unfold sendThird in i .first-named;
+      finished-named = unfold sendThird in i .finished-named;
+    }
+      where
+        thirds-fast : (x : ℕ) → FastIn s x → Fast w ((sendThird w s m p c) .thirds) (s .finished) (s .oracle) x
+        thirds-fast x k = unfold sendThird in record { done = k .done; most = k .most; no-pool = k .no-pool; no-log = k .no-log }
+
+        thirds-slow : (x : ℕ) → Slow w (s .thirds) (s .finished) (s .oracle) x → Slow w ((sendThird w s m p c) .thirds) (s .finished) (s .oracle) x
+        thirds-slow x k = unfold sendThird in record { done = k .done; most = k .most; union = k .union }
+
+    safe-hearThird : (m r : ℕ) → s .thirds .sent m r ≡ true → s .finished m ≡ false → Safe (hearThird w s m r)
+    unfolding hearThird
+    safe-hearThird m r here open-m = record {
+      voting = i .voting;
+      tallies = hearThird-tallies w s (i .tallies) m r here;
+      ending = hearThird-ending w s (i .ending) m r open-m;
+      first-named = i .first-named;
+      finished-named = i .finished-named;
+    }
+
+    safe-takeThird : (m r : ℕ) → Safe (takeThird w s m r)
+    safe-takeThird m r = record {
+      voting = unfold takeThird in i .voting;
+      tallies = unfold takeThird in takeThird-tallies w s (i .tallies) m r;
+      ending = unfold takeThird in record {
+        sent-fast = λ x a b k. thirds-fast x (i .ending .sent-fast x a b k);
+        got-fast = λ x a k. thirds-fast x (i .ending .got-fast x a k);
+        pool-slow = λ x k. thirds-slow x (i .ending .pool-slow x k);
+        log-slow = λ x k. thirds-slow x (i .ending .log-slow x k);
+        pool-log = i .ending .pool-log;
+        log-once = i .ending .log-once;
+      };
+      first-named = unfold takeThird in i .first-named;
+      finished-named = unfold takeThird in i .finished-named;
+    }
+      where
+        thirds-fast : (x : ℕ) → FastIn s x → Fast w ((takeThird w s m r) .thirds) (s .finished) (s .oracle) x
+        thirds-fast x k = unfold takeThird in record { done = k .done; most = k .most; no-pool = k .no-pool; no-log = k .no-log }
+
+        thirds-slow : (x : ℕ) → Slow w (s .thirds) (s .finished) (s .oracle) x → Slow w ((takeThird w s m r) .thirds) (s .finished) (s .oracle) x
+        thirds-slow x k = unfold takeThird in record { done = k .done; most = k .most; union = k .union }
+
+    safe-finish : (m : ℕ) → s .offered m ≡ true → Safe (finish w s m)
+    unfolding finish
+    safe-finish m known = record {
+      voting = i .voting;
+      tallies = i .tallies;
+      ending = finish-ending w s (i .ending) m;
+      first-named = i .first-named;
+      finished-named = λ x h. elim (from (eqb m x) _ _ h) [ inl u ↦ rw (← eqb-true m x (u .0)) known | inr o ↦ i .finished-named x o ];
+    }
+
+    safe-sendDeliver : (m p : ℕ) (to : ℕ → Bool) → FastIn s m → Safe (sendDeliver w s m p to)
+    unfolding sendDeliver
+    safe-sendDeliver m p to h = record {
+      voting = i .voting;
+      tallies = i .tallies;
+      ending = sendDeliver-ending w s (i .ending) m p to h;
+      first-named = i .first-named;
+      finished-named = i .finished-named;
+    }
+
+    safe-enterPool : (m : ℕ) (c : Cut) → s .finished m ≡ true → w .n - w .f ≤ heardOf w s m → ¬ FastIn s m → ¬ In m (s .oracle .log)
+        → Safe (enterPool w s m c)
+    unfolding enterPool
+    safe-enterPool m c fin many not-fast not-log = record {
+      voting = i .voting;
+      tallies = i .tallies;
+      ending = enterPool-ending w s (i .ending) m c fin many not-fast not-log;
+      first-named = i .first-named;
+      finished-named = i .finished-named;
+    }
+
+    safe-takeDeliver : (m r p : ℕ) → Safe (takeDeliver w s m r p)
+    unfolding takeDeliver
+    safe-takeDeliver m r p = record {
+      voting = i .voting;
+      tallies = i .tallies;
+      ending = takeDeliver-ending w s (i .ending) m r p;
+      first-named = i .first-named;
+      finished-named = i .finished-named;
+    }
+
+    safe-get : (m p : ℕ) → FastIn s m → Safe (get w s m p)
+    unfolding get
+    safe-get m p h = record {
+      voting = i .voting;
+      tallies = i .tallies;
+      ending = get-ending w s (i .ending) m p h;
+      first-named = i .first-named;
+      finished-named = i .finished-named;
+    }
+
+    safe-append : (m : ℕ) → s .oracle .pool m ≡ true → Safe (append w s m)
+    unfolding append
+    safe-append m h = record {
+      voting = i .voting;
+      tallies = i .tallies;
+      ending = append-ending w s (i .ending) m h;
+      first-named = i .first-named;
+      finished-named = i .finished-named;
+    }
+
+    -- what a site keeps to itself, these facts do not read
+    safe-deliverAt : (p : ℕ) (l : List ℕ) (c : Cut) → Safe (deliverAt w s p l c)
+    unfolding deliverAt
+    safe-deliverAt p l c = record { voting = i .voting; tallies = i .tallies; ending = i .ending; first-named = i .first-named; finished-named = i .finished-named }
+
+    safe-advance : (p : ℕ) → Safe (advance w s p)
+    unfolding advance
+    safe-advance p = record { voting = i .voting; tallies = i .tallies; ending = i .ending; first-named = i .first-named; finished-named = i .finished-named }
+
+    safe-down : (p : ℕ) → Safe (down w s p)
+    unfolding down
+    safe-down p = record { voting = i .voting; tallies = i .tallies; ending = i .ending; first-named = i .first-named; finished-named = i .finished-named }
+
+    safe-downIf : (c : Cut) (p : ℕ) → Safe (downIf w c s p)
+    safe-downIf whole p = i
+    safe-downIf (part out) p = safe-down p
+
+  -- the events
+  module _ (s : State) (i : Safe s) where
+    safe-first : (m r p : ℕ) (c : Cut) → s .firsts m r p ≡ true → Safe (onFirst w s m r p c)
+    unfolding onFirst
+    safe-first m r p c h =
+        let one = takeFirst w s m r p in
+        let known : one .offered m ≡ true = unfold takeFirst in i .first-named m r p h in
+        let seen : (see w one m p) .sets .seen p m ≡ true = unfold see in join-new (one .sets .seen) p m in
+        let two = safe-see one (safe-takeFirst s i m r p) m p known in
+        safe-downIf (sendSecond w (see w one m p) m p c) (safe-sendSecond (see w one m p) two m p c seen) c p
+
+    safe-countSecond : (m p : ℕ) (c : Cut) → s .offered m ≡ true → Safe (countSecond w s m p c)
+    safe-countSecond m p c known =
+        let one = see w s m p in
+        let seen : one .sets .seen p m ≡ true = unfold see in join-new (s .sets .seen) p m in
+        let two = step w one m p in
+        let stepped : two .sets .stepped p m ≡ true = unfold step in join-new (one .sets .stepped) p m in
+        either Safe (leb (w .n - w .f) (heardAt w s m p)) (sendThird w two m p c) s
+        (λ _. safe-sendThird two (safe-step one (safe-see s i m p known) m p seen) m p c stepped)
+        (λ _. i)
+
+    safe-conclude : (m : ℕ) (c : Cut) → s .offered m ≡ true → s .finished m ≡ false → w .n - w .f ≤ heardOf w s m → Safe (conclude w (finish w s m) m c)
+    safe-conclude m c known open-m many =
+        let one = finish w s m in
+        let done : one .finished m ≡ true = unfold finish in rw (eqb-yes m m refl) in
+        let not-pool : one .oracle .pool m ≡ false = unfold finish in not-false (s .oracle .pool m) (λ h. nope (i .ending .pool-slow m h .done) open-m) in
+        let not-log : ¬ In m (one .oracle .log) = unfold finish in λ h. nope (i .ending .log-slow m h .done) open-m in
+        let enough : w .n - w .f ≤ heardOf w one m = unfold finish in many in
+        let j = safe-finish s i m known in
+        either Safe (majority (λ r. one .thirds .has m r) (w .n)) (sendDeliver w one m (w .owner m) (toAll w c)) (enterPool w one m c)
+        (λ t. safe-sendDeliver one j m (w .owner m) (toAll w c) (record { done = done; most = t; no-pool = not-pool; no-log = not-log }))
+        (λ t. safe-enterPool one j m c done enough (λ h. nope (h .most) t) not-log)
+
+    safe-relay : (m p : ℕ) (c : Cut) → FastIn s m → Safe (relay w s m p c) × FastIn (relay w s m p c) m
+    safe-relay m p c h =
+        let to : ℕ → Bool = λ t. not (eqb p t) && toAll w c t in
+        either (λ t. Safe t × FastIn t m) (eqb p (w .owner m)) s (sendDeliver w s m p to)
+        (λ _. (i, h))
+        (λ _. (safe-sendDeliver s i m p to h, unfold sendDeliver in h))
+
+  module _ (s : State) (i : Safe s) where
+    safe-second : (m r p : ℕ) (c : Cut) → s .seconds .sent m r p ≡ true → Safe (onSecond w s m r p c)
+    unfolding onSecond
+    safe-second m r p c here =
+        let one = hearSecond w s m r p in
+        let known : one .offered m ≡ true = unfold hearSecond in second-named s i m r p here in
+        let late = lateSecond w s m r p in
+        let after = countSecond w one m p c in
+        let j = either Safe late s after (λ _. i) (λ t.
+        safe-countSecond one (safe-hearSecond s i m r p here ((second-in-time w s m r p t) .0)) m p c known) in
+        safe-downIf (takeSecond w (cond late s after) m r p) (safe-takeSecond (cond late s after) j m r p) c p
+
+    safe-third : (m r : ℕ) (c : Cut) → s .thirds .sent m r ≡ true → Safe (onThird w s m r c)
+    unfolding onThird
+    safe-third m r c here =
+        let one = hearThird w s m r in
+        let known : one .offered m ≡ true = unfold hearThird in third-named s i m r here in
+        let late = lateThird w s m r in
+        let after = countThird w one m c in
+        let j = either Safe late s after (λ _. i) (λ t.
+        let open-m = (third-in-time w s m r t) .1 in
+        let still : one .finished m ≡ false = unfold hearThird in open-m in
+        let k = safe-hearThird s i m r here open-m in
+        either Safe (leb (w .n - w .f) (heardOf w one m)) (conclude w (finish w one m) m c) one
+        (λ u. safe-conclude one k m c known still (leb-true (w .n - w .f) (heardOf w one m) u))
+        (λ _. k)) in
+        safe-downIf (takeThird w (cond late s after) m r) (safe-takeThird (cond late s after) j m r) c (w .owner m)
+
+    safe-deliver : (m r p : ℕ) (c : Cut) → s .delivers .sent m r p ≡ true → Safe (onDeliver w s m r p c)
+    unfolding onDeliver
+    safe-deliver m r p c here =
+        let (k, h) = safe-relay s i m p c (i .ending .sent-fast m r p here) in
+        let one = get w (relay w s m p c) m p in
+        let after = deliverAt w one p (m ∷ []) c in
+        let j = either Safe (s .delivers .got p m) s after (λ _. i) (λ _. safe-deliverAt one (safe-get (relay w s m p c) k m p h) p (m ∷ []) c) in
+        safe-downIf (takeDeliver w (cond (s .delivers .got p m) s after) m r p) (safe-takeDeliver (cond (s .delivers .got p m) s after) j m r p) c p
+
+    pub safe-does : (e : Event) → Allowed w s e → Safe (does w s e)
+    safe-does (offer m c) ok = unfold onOffer in safe-downIf (sendFirst w s m c) (safe-sendFirst s i m c (ok .0)) c (w .owner m)
+    safe-does (first m r p c) ok = safe-first s i m r p c (ok .0)
+    safe-does (second m r p c) ok = safe-second m r p c (ok .0)
+    safe-does (third m r c) ok = safe-third m r c (ok .0)
+    safe-does (deliver m r p c) ok = safe-deliver m r p c (ok .0)
+    safe-does (order m) ok = unfold onOrder in safe-append s i m ok
+    safe-does (read p c) ok = unfold onRead in safe-downIf (deliverAt w (advance w s p) p (entryOf w (s .oracle .entry) (nextAt w s p)) c) (safe-deliverAt (advance w s p) (safe-advance s i p) p (entryOf w (s .oracle .entry) (nextAt w s p)) c) c p
+    safe-does (crash p) ok = safe-down s i p
+
+  safe-blank : Safe blank
+  unfolding blank
+  safe-blank = record {
+    voting = record {
+      below = λ m h. absurd (nope h refl);
+      named = λ p m h. absurd (nope h refl);
+      good-sent = λ m r p h. h;
+      agreed-heard = λ m r p h. h;
+      sent-seen = λ m r p h. h;
+      heard-seen = λ m r p h. h;
+      apart = λ m x r p q c g h. elim g [ inl k ↦ nope k refl | inr k ↦ nope k refl ];
+      major = λ p m h. absurd (nope h refl);
+      held-stepped = λ p m h. h;
+      stepped-seen = λ p m h. h;
+    };
+    tallies = record {
+      sent-stepped = λ m r h. h;
+      heard-stepped = λ m r h. h;
+      carried-held = λ m r x h k. h;
+      has-held = λ m r h. h;
+      has-heard = λ m r h. h;
+      union-held = λ m x h. absurd (nope h refl);
+      carried-all = λ m r x h k c. h;
+      union-all = λ m r x h k c. h;
+    };
+    ending = record {
+      sent-fast = λ m r p h. absurd (nope h refl);
+      got-fast = λ m p h. absurd (nope h refl);
+      pool-slow = λ m h. absurd (nope h refl);
+      log-slow = λ m h. absurd h;
+      pool-log = λ m h k. k;
+      log-once = tt;
+    };
+    first-named = λ m r p h. h;
+    finished-named = λ m h. h;
+  }
+
+  pub safe : {es : List Event} {s : State} → Reached w es s → Safe s
+  safe start = safe-blank
+  safe (next {es} {s} r e ok) = safe-does s (safe r) e ok

@@ -1,0 +1,79 @@
+// Holds: how the arguments of a call are changed at random, near the edges of what is allowed.
+// Rests on: prng, board, call, posting.
+
+use crate::board::Board;
+use crate::call::Call;
+use crate::posting::{ACCOUNTS, MAX_AMOUNT, MAX_RATE};
+use crate::prng::Prng;
+
+/// A number near the edge of what a field allows; wide ones look sound in their low bits.
+fn odd_number(rng: &mut Prng, edge: u64, wide: bool) -> u64 {
+    let inside = rng.below(edge);
+    if wide && rng.percent(30) {
+        return rng.pick(&[inside + 256, inside + (1 << 32), inside | 1 << 63, u64::MAX]);
+    }
+    rng.pick(&[inside, inside, edge, edge - 1, edge + 1, 254]) % 256
+}
+
+fn odd_amount(rng: &mut Prng, wide: bool) -> u64 {
+    let any = rng.word() % (1 << 32);
+    if wide && rng.percent(30) {
+        return rng.pick(&[any | 1 << 32, (1 << 32) + 1, u64::MAX]);
+    }
+    let edges = [0, 1, MAX_RATE, MAX_RATE + 1, MAX_AMOUNT, MAX_AMOUNT + 1];
+    let edge = rng.pick(&edges);
+    rng.pick(&[edge, edge, any, (1 << 32) - 1])
+}
+
+/// Mostly too long: a cut that fits uses up a crash, and then every later one is 14.
+fn odd_cut(rng: &mut Prng, n: u64, wide: bool) -> Option<u64> {
+    let j = odd_number(rng, n + 1, wide);
+    let beyond = if wide { u64::MAX } else { 254 };
+    let long = Some(n + 1);
+    rng.pick(&[None, Some(2), Some(j), long, long, long, Some(beyond)])
+}
+
+fn bend(rng: &mut Prng, value: &mut u64, edge: u64, wide: bool) {
+    if rng.percent(25) {
+        *value = odd_number(rng, edge, wide);
+    }
+}
+
+/// Changes some of the arguments, so that the call is refused for one cause or several, or for none.
+pub fn spoil(rng: &mut Prng, board: &Board, wide: bool, call: &mut Call) {
+    let n = u64::from(board.n);
+    let offered = board.postings.len() as u64 + 1;
+    let accounts = ACCOUNTS as u64;
+    let numbers: Vec<(&mut u64, u64)> = match call {
+        Call::Offer {
+            site, kind, a, b, ..
+        } => vec![(site, n), (kind, 4), (a, accounts), (b, accounts)],
+        Call::Receive {
+            form,
+            posting,
+            from,
+            to,
+            ..
+        } => vec![(form, 4), (posting, offered), (from, n), (to, n)],
+        Call::Order { posting } => vec![(posting, offered)],
+        Call::Read { site, .. } | Call::Crash { site } => vec![(site, n)],
+    };
+    for (value, edge) in numbers {
+        bend(rng, value, edge, wide);
+    }
+    spoil_rest(rng, n, wide, call);
+}
+
+/// The amount and the cut.
+fn spoil_rest(rng: &mut Prng, n: u64, wide: bool, call: &mut Call) {
+    if let Call::Offer { amount, .. } = call {
+        if rng.percent(25) {
+            *amount = odd_amount(rng, wide);
+        }
+    }
+    if let Call::Offer { cut, .. } | Call::Receive { cut, .. } | Call::Read { cut, .. } = call {
+        if rng.percent(40) {
+            *cut = odd_cut(rng, n, wide);
+        }
+    }
+}

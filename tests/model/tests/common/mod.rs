@@ -1,0 +1,67 @@
+// Holds: short ways to start, offer, receive and complete a schedule, shared by the tests.
+// Rests on: the model.
+#![allow(dead_code)]
+
+pub mod naive;
+pub mod tally;
+
+use model::prng::Prng;
+use model::set::members;
+use model::{Board, Call, Message, Refusal, FIXED_PAIRS};
+
+pub fn start(n: u64, f: u64) -> Board {
+    let (board, answer) = Board::start(n, f, FIXED_PAIRS);
+    assert_eq!(answer, Ok(()));
+    board
+}
+
+/// The number of a refusal, or 0.
+pub fn no<T>(answer: Result<T, Refusal>) -> u8 {
+    answer.err().map_or(0, Refusal::number)
+}
+
+pub fn receive(board: &mut Board, form: usize, posting: u64, from: u64, to: u64) {
+    let answer = board.receive(form as u64, posting, from, to, None);
+    assert_eq!(answer, Ok(()), "{form} {posting} {from} {to}");
+}
+
+pub fn receipt(message: &Message, cut: Option<u64>) -> Call {
+    Call::Receive {
+        form: message.form.into(),
+        posting: message.posting.into(),
+        from: message.from.into(),
+        to: message.to.into(),
+        cut,
+    }
+}
+
+/// Receipts, orders and reads that would be accepted uncut, receipts only if allowed.
+pub fn choices(board: &Board, allowed: impl Fn(&Board, &Message) -> bool) -> Vec<Call> {
+    let mut list: Vec<Call> = board
+        .flight
+        .messages(board.up())
+        .iter()
+        .filter(|m| allowed(board, m))
+        .map(|m| receipt(m, None))
+        .collect();
+    list.extend(members(board.pool).map(|m| Call::Order { posting: m as u64 }));
+    for s in 0..usize::from(board.n) {
+        if board.is_up(s) && board.sites[s].place < board.log.len() {
+            let site = s as u64;
+            list.push(Call::Read { site, cut: None });
+        }
+    }
+    list
+}
+
+/// Does allowed events at random until none is left.
+pub fn complete(board: &mut Board, rng: &mut Prng, allowed: impl Fn(&Board, &Message) -> bool) {
+    loop {
+        let list = choices(board, &allowed);
+        if list.is_empty() {
+            return;
+        }
+        let call = rng.pick(&list);
+        assert!(board.apply(&call).is_ok(), "{call:?}");
+    }
+}

@@ -1,0 +1,176 @@
+// Holds: boards with one cause of refusal 6 each, and odd boards that are sound all the same.
+// Rests on: the model, common.
+
+mod common;
+
+use common::{no, receive, start};
+use model::*;
+
+/// Three postings on three of seven slots: 0 delivered, 1 in the log, 2 in the pool, THIRDs in flight.
+fn rich() -> Board {
+    let mut board = start(3, 1);
+    board.offer(0, 0, 1, 2, 9, None).unwrap();
+    board.drain(6784).unwrap();
+    board.offer(0, 1, 4, 4, 250, None).unwrap();
+    board.offer(1, 2, 4, 4, 0, None).unwrap();
+    for (posting, to) in [(1, 0), (2, 1), (1, 2), (2, 0), (1, 1), (2, 2)] {
+        receive(&mut board, FIRST, posting, posting - 1, to);
+    }
+    for posting in [1, 2] {
+        for from in 0..2 {
+            (0..3).for_each(|s| receive(&mut board, SECOND, posting, from, s));
+        }
+        receive(&mut board, THIRD, posting, 2, posting - 1);
+        receive(&mut board, THIRD, posting, 1, posting - 1);
+    }
+    board.order(1).unwrap();
+    board.read(0, None).unwrap();
+    assert!(board.is_sound());
+    assert_eq!((board.log.as_slice(), board.pool), ([1].as_slice(), 0b100));
+    assert_eq!(board.flight.to[THIRD][1][0], 0b001);
+    board
+}
+
+fn refuses_all(name: &str, mut board: Board) {
+    let before = board.clone();
+    let mut lent = [7; 500];
+    assert!(!board.is_sound(), "{name}");
+    assert_eq!(no(board.offer(0, 0, 1, 2, 9, None)), 6, "{name}");
+    assert_eq!(no(board.offer(9, 9, 99, 2, 9, Some(9))), 6, "{name}");
+    assert_eq!(no(board.receive(2, 1, 0, 0, None)), 6, "{name}");
+    assert_eq!(no(board.receive(9, 99, 9, 9, Some(9))), 6, "{name}");
+    assert_eq!(no(board.order(2)), 6, "{name}");
+    assert_eq!(no(board.read(1, None)), 6, "{name}");
+    assert_eq!(no(board.crash(0)), 6, "{name}");
+    assert_eq!(no(board.drain(9)), 6, "{name}");
+    assert_eq!(no(board.apply(&Call::Crash { site: 9 })), 6, "{name}");
+    assert_eq!(no(board.books(0, &mut lent)), 6, "{name}");
+    assert_eq!(no(board.books(9, &mut lent[..3])), 6, "{name}");
+    assert_eq!(no(board.books_of_all(&mut lent)), 6, "{name}");
+    assert_eq!(no(board.books_of_all(&mut [])), 6, "{name}");
+    board.is_quiet();
+    assert_eq!(board, before, "{name}");
+    assert_eq!(lent, [7; 500], "{name}");
+}
+
+type Change = (&'static str, fn(&mut Board));
+
+#[test]
+fn the_blank_board() {
+    refuses_all("blank", Board::blank());
+    refuses_all("refused start", Board::start(3, 1, 0).0);
+}
+
+const NUMBERS: [Change; 15] = [
+    ("n 2", |b| b.n = 2),
+    ("n 8", |b| b.n = 8),
+    ("n 255", |b| b.n = 255),
+    ("f 2", |b| b.f = 2),
+    ("f 255", |b| b.f = 255),
+    ("not symmetric", |b| b.matrix |= 2),
+    ("no fixed pair", |b| b.matrix = 0x5B4C),
+    ("owner", |b| b.postings[0].owner = 3),
+    ("kind", |b| b.postings[0].kind = 4),
+    ("account a", |b| b.postings[0].a = 16),
+    ("account b", |b| b.postings[1].b = 5),
+    ("same accounts", |b| b.postings[0].b = 1),
+    ("amount", |b| b.postings[0].amount = 1_000_000_001),
+    ("rate", |b| b.postings[1].amount = 10_001),
+    ("65 postings", |b| {
+        let p = b.postings[0];
+        b.postings.resize(65, p);
+    }),
+];
+
+const SETS: [Change; 17] = [
+    ("down", |b| b.down |= 0b1000),
+    ("down, bit 7", |b| b.down |= 0x80),
+    ("seen", |b| b.sites[0].seen |= 8),
+    ("held", |b| b.sites[1].held |= 8),
+    ("stepped", |b| b.sites[2].stepped |= 1 << 63),
+    ("finished", |b| b.sites[0].finished |= 8),
+    ("told", |b| b.sites[0].told |= 8),
+    ("seconds heard", |b| b.sites[0].seconds[0].heard |= 8),
+    ("seconds good", |b| b.sites[0].seconds[0].good |= 8),
+    ("seconds of 3", |b| b.sites[0].seconds[3].heard = 1),
+    ("goods of 63", |b| b.sites[2].seconds[63].good = 1),
+    ("thirds heard", |b| b.sites[0].thirds[0].heard |= 8),
+    ("thirds with", |b| b.sites[0].thirds[0].with |= 8),
+    ("thirds union", |b| b.sites[0].thirds[0].union |= 8),
+    ("thirds of 3", |b| b.sites[0].thirds[3].heard = 1),
+    ("pool", |b| b.pool |= 8),
+    ("entry in the pool", |b| b.entries[2] |= 8),
+];
+
+const FLIGHTS: [Change; 10] = [
+    ("FIRST of 3", |b| b.flight.to[FIRST][3][0] = 1),
+    ("DELIVER of 63", |b| b.flight.to[DELIVER][63][0] = 1),
+    ("FIRST from 3", |b| b.flight.to[FIRST][0][3] = 1),
+    ("SECOND from 6", |b| b.flight.to[SECOND][0][6] = 1),
+    ("SECOND to 3", |b| b.flight.to[SECOND][0][0] = 8),
+    ("DELIVER to 7", |b| b.flight.to[DELIVER][0][0] = 0x80),
+    ("THIRD not to its owner", |b| b.flight.to[THIRD][0][1] = 2),
+    ("THIRD to more", |b| b.flight.to[THIRD][0][1] = 3),
+    ("THIRD of 3", |b| b.flight.to[THIRD][3][1] = 1),
+    ("carried", |b| b.flight.carried[1][0] |= 8),
+];
+
+const LISTS: [Change; 14] = [
+    ("log names 3", |b| b.log.push(3)),
+    ("log names 255", |b| b.log.push(255)),
+    ("log twice", |b| b.log.push(1)),
+    ("record names 3", |b| b.sites[1].record.push(3)),
+    ("record names 64", |b| b.sites[1].record.push(64)),
+    ("record twice", |b| b.sites[1].record.push(0)),
+    ("place", |b| b.sites[0].place = 2),
+    ("place, down", |b| {
+        b.down = 1;
+        b.sites[0].place = usize::MAX;
+    }),
+    ("log lost", |b| b.log.clear()),
+    ("pool not finished", |b| b.sites[1].finished &= !4),
+    ("log not finished", |b| b.sites[0].finished &= !2),
+    ("finished elsewhere", |b| {
+        b.sites[1].finished &= !4;
+        b.sites[0].finished |= 4;
+    }),
+    ("in pool and log", |b| b.pool |= 2),
+    ("entry in the log", |b| b.entries[1] |= 8),
+];
+
+#[test]
+fn one_per_cause() {
+    for list in [NUMBERS.as_slice(), &SETS, &FLIGHTS, &LISTS] {
+        for (name, change) in list {
+            let mut board = rich();
+            change(&mut board);
+            refuses_all(name, board);
+        }
+    }
+}
+
+#[test]
+fn nothing_else_is_a_cause() {
+    let changes: [Change; 12] = [
+        ("all down", |b| b.down = 7),
+        ("held unseen", |b| b.sites[0].seen = 0),
+        ("f lowered", |b| b.f = 0),
+        ("GOOD unheard", |b| b.sites[0].seconds[0].heard = 0),
+        ("THIRD heard elsewhere", |b| b.sites[2].thirds[0].heard = 7),
+        ("FIRST not from its owner", |b| b.flight.to[FIRST][0][2] = 7),
+        ("DELIVER of the pooled", |b| b.flight.to[DELIVER][2][2] = 7),
+        ("record empty", |b| b.sites[0].record.clear()),
+        ("delivered untold", |b| b.sites[0].told = 0),
+        ("nothing finished but 1 and 2", |b| b.sites[0].finished = 2),
+        ("slot 5 is no site", |b| b.sites[5].seen = u64::MAX),
+        ("no such entry", |b| b.entries[0] = u64::MAX),
+    ];
+    for (name, change) in changes {
+        let mut board = rich();
+        change(&mut board);
+        assert!(board.is_sound(), "{name}");
+        assert_ne!(no(board.clone().crash(0)), 6, "{name}");
+        assert_eq!(no(board.drain(6784)), 0, "{name}");
+        assert!(board.is_sound(), "{name}");
+    }
+}
