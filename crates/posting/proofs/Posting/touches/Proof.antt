@@ -1,0 +1,27 @@
+-- `touches` meets its contract.
+-- Assumes nothing.
+use native.Mathlib.Omega.{arith}
+use borrow.Author.Tests.{eq-eqb, ne-eqb, lt-ltb, le-ltb}
+use Rattle.posting.specs.Kinds.{accounts}
+use Rattle.posting.specs.Conflicts.{touches}
+use Rattle.posting.proofs.Posting.touches.Statement.{statement}
+use Rattle.posting.proofs.Posting.touches.Tie as tie
+
+returns : tie.Need-returns
+unfolding touches
+returns c = rw (le-ltb (c .before .args .account) accounts (omega arith))
+
+returns-2 : tie.Need-returns-2
+unfolding touches
+returns-2 c =
+    let args = c .before .before .before .args in
+    rw (lt-ltb (args .account) accounts (omega arith), eq-eqb (args .account) (args .self .a) (c .if2 .taken))
+
+returns-3 : tie.Need-returns-3
+unfolding touches
+returns-3 c =
+    let args = c .before .before .before .before .args in
+    rw (lt-ltb (args .account) accounts (omega arith), ne-eqb (args .account) (args .self .a) (c .before .if2 .left))
+
+pub touches-spec : {M : Type 1} → statement M
+touches-spec = tie.close (tie.spec returns returns-2 returns-3)

@@ -1,0 +1,24 @@
+-- Tests of the numbers below n: whether all pass, whether any does, how many do.
+-- Rests on nothing.
+use Prim.Native.Nat.{ℕ, zero, suc, _+_}
+use mathlib.Core.Bool.{Bool, true, false, _&&_, _||_}
+
+-- every number below n passes
+unfoldable pub allBelow : (ℕ → Bool) → ℕ → Bool
+allBelow p zero = true
+allBelow p (suc n) = allBelow p n && p n
+
+-- some number below n passes
+unfoldable pub anyBelow : (ℕ → Bool) → ℕ → Bool
+anyBelow p zero = false
+anyBelow p (suc n) = anyBelow p n || p n
+
+-- 1 if true, else 0
+abbrev pub one : Bool → ℕ
+one true = 1
+one false = 0
+
+-- how many numbers below n pass
+unfoldable pub count : (ℕ → Bool) → ℕ → ℕ
+count p zero = 0
+count p (suc n) = one (p n) + count p n
