@@ -12,3 +12,7 @@ pub mod OneOrder
 pub mod Live
 pub mod Progress
 pub mod Uniform
+pub mod Sums
+pub mod Potential
+pub mod Thrift
+pub mod Ceiling

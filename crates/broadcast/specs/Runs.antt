@@ -167,6 +167,6 @@ names w s (read p c) x = eqb (nextAt w s p) x
 names w s (crash p) x = false
 
 -- how many receipts, orders and readings of a run name posting x
-pub spent : {w : World} {es : List Event} {s : State} → Reached w es s → ℕ → ℕ
+unfoldable pub spent : {w : World} {es : List Event} {s : State} → Reached w es s → ℕ → ℕ
 spent start x = 0
 spent {w} (next {es} {s} r e ok) x = bit (names w s e x) + spent r x
