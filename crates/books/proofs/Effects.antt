@@ -1,0 +1,36 @@
+-- Laws of one effect: what is no kind does nothing, a posting changes the accounts that it touches, and no number of any other.
+-- Rests on Effect. Assumes nothing.
+use mathlib.Core.Path.{_≡_}
+use mathlib.Core.Bool.{true, false}
+use mathlib.Core.Logic.{inl, inr}
+use Prim.Native.Nat.{ℕ, _≤_}
+use native.Mathlib.Omega.{arith}
+use borrow.Author.Tests.{ne-eqb}
+use Rattle.sets.specs.Truth.{not-so}
+use Rattle.posting.specs.declared.Posting.{Posting}
+use Rattle.posting.specs.Kinds.{trade, rate, call, net, kinds}
+use Rattle.posting.specs.Conflicts.{touches}
+use Rattle.posting.specs.ConflictLaws.{touches-cases}
+use Rattle.books.specs.declared.Figures.{Figures}
+use Rattle.books.specs.Effect.{change, effect}
+
+pub no-kind : (kind : ℕ) → kinds ≤ kind → (p : Posting) (k : ℕ) (s : Figures) → change kind p k s ≡ s
+unfolding change
+no-kind kind h p k s = rw (
+  ne-eqb kind trade (omega arith),
+  ne-eqb kind rate (omega arith),
+  ne-eqb kind call (omega arith),
+  ne-eqb kind net (omega arith),
+)
+
+pub effect-touched : (p : Posting) (k : ℕ) (s : Figures) → touches p k ≡ true → effect p k s ≡ change (p .kind) p k s
+unfolding effect
+effect-touched p k s t = rw t
+
+-- a posting changes no number of an account that it does not touch
+pub effect-untouched : (p : Posting) (k : ℕ) (s : Figures) → touches p k ≡ false → effect p k s ≡ s
+unfolding effect
+effect-untouched p k s t = rw t
+
+pub touches-neither : (p : Posting) (k : ℕ) → (k ≡ p .a → ⊥) → (k ≡ p .b → ⊥) → touches p k ≡ false
+touches-neither p k a b = not-so (touches p k) (λ t. elim (touches-cases p k t) [ inl e ↦ a e | inr e ↦ b e ])

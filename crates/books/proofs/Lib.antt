@@ -1,0 +1,9 @@
+pub mod Signed
+pub mod Lists
+pub mod Blocks
+pub mod Effects
+pub mod Commute
+pub mod Balance
+pub mod Bounds
+pub mod Lines
+pub mod Sheets

@@ -1,0 +1,111 @@
+-- Posting on a sheet: what the code does with a line of a record, and what a record that may be posted says of each line.
+-- Rests on Lines. Assumes nothing.
+use mathlib.Core.Path.{_≡_, refl, sym, ap, _∙_, subst}
+use mathlib.Core.Bool.{Bool, true, false, cond}
+use mathlib.Core.List.{List}
+use Prim.Native.Nat.{ℕ, suc, _<_, _≤_}
+use native.Mathlib.Decide.{ℕ-discrete}
+use native.Mathlib.Omega.{arith}
+use lib.Dec.{eqb, lit≤}
+use lib.ListN.{length, getD, set, take}
+use lib.Seq.{length-take-le, getD-take}
+use borrow.Author.Tests.{eq-eqb, ne-eqb}
+use Rattle.sets.specs.Sets.{capacity}
+use Rattle.posting.specs.declared.Posting.{Posting}
+use Rattle.posting.specs.declared.Table.{Table}
+use Rattle.posting.specs.declared.Record.{Record}
+use Rattle.posting.specs.Kinds.{accounts}
+use Rattle.posting.specs.KindLaws.{Fields, fields}
+use Rattle.posting.specs.Conflicts.{row}
+use Rattle.posting.specs.ConflictLaws.{offered-below, touches-first, touches-second}
+use Rattle.books.specs.declared.Figures.{Figures}
+use Rattle.books.specs.declared.Sheet.{Sheet}
+use Rattle.books.specs.Effect.{change, effect}
+use Rattle.books.specs.Books.{Books, blank, post, books, zeros, tabulate, figuresOf, sheetOf}
+use Rattle.books.specs.Bounds.{After, Room, Opening, Postable}
+use Rattle.books.proofs.Effects.{effect-touched, effect-untouched, touches-neither}
+use Rattle.books.proofs.Bounds.{effect-after, later, room}
+use Rattle.books.proofs.Lines.{books-after}
+use Rattle.books.proofs.Lists.{getD-tabulate, is-tabulate, getD-changed, changed-both}
+
+-- ---- a line on the sheet: account a, then account b if that is another one
+
+module _ (s : Books) (p : Posting) (ok : Fields p) where
+  first-is : change (p .kind) p (p .a) (s (p .a)) ≡ effect p (p .a) (s (p .a))
+  first-is = sym (effect-touched p (p .a) (s (p .a)) (touches-first p (ok .first)))
+
+  second-is : (u : Figures) → u ≡ cond (eqb (p .b) (p .a)) (effect p (p .a) (s (p .a))) (s (p .b))
+      → cond (eqb (p .a) (p .b)) u (change (p .kind) p (p .b) u) ≡ effect p (p .b) (s (p .b))
+  second-is u h = elim (ℕ-discrete (p .a) (p .b)) [
+    | yes e ↦ rw (eq-eqb (p .a) (p .b) e) (h ∙ rw (eq-eqb (p .b) (p .a) (sym e)) (ap (λ k. effect p k (s k)) e))
+    | no ne ↦
+        let v : u ≡ s (p .b) = h ∙ rw (ne-eqb (p .b) (p .a) (λ e. ne (sym e))) in
+        rw (ne-eqb (p .a) (p .b) ne, v) (sym (effect-touched p (p .b) (s (p .b)) (touches-second p (ok .second))))
+  ]
+
+-- how the code begins line n: l is the sheet's accounts, those of the books s; p the posting; a the place of its account a
+pub record Line (n : ℕ) (s : Books) (p : Posting) (l : List Figures) (a : ℕ) : Type 0 where
+  pub early : n < capacity
+  pub bounded : (k : ℕ) → k < accounts → After n (s k)
+  pub ok : Fields p
+  pub from : l ≡ tabulate accounts s
+  pub first : a ≡ p .a
+
+module _ {n : ℕ} {s : Books} {p : Posting} {l : List Figures} {a : ℕ} (c : Line n s p l a) where
+  at-a : getD l a zeros ≡ s (p .a)
+  at-a = rw (c .from, c .first) (getD-tabulate accounts s zeros (p .a) (c .ok .first))
+
+  pub room-a : Room (getD l a zeros)
+  room-a = rw at-a (room capacity n (s (p .a)) (lit≤ tt) (omega arith) (c .bounded (p .a) (c .ok .first)))
+
+  -- t is stored at a; b is the place of account b
+  module _ (t : Figures) (b : ℕ) (et : t ≡ change (p .kind) p (p .a) (getD l a zeros)) (eb : b ≡ p .b) where
+    stored : t ≡ effect p (p .a) (s (p .a))
+    stored = et ∙ rw at-a (first-is s p (c .ok))
+
+    at-b : getD (set l a t) b zeros ≡ cond (eqb (p .b) (p .a)) (effect p (p .a) (s (p .a))) (s (p .b))
+    at-b = rw (stored, c .from, c .first, eb) (getD-changed accounts s zeros (p .a) (effect p (p .a) (s (p .a))) (p .b) (c .ok .second))
+
+    pub room-b : Room (getD (set l a t) b zeros)
+    room-b = rw at-b (room capacity (suc n) _ (lit≤ tt) (c .early) (go (eqb (p .b) (p .a))))
+      where
+        go : (t : Bool) → After (suc n) (cond t (effect p (p .a) (s (p .a))) (s (p .b)))
+        go true = effect-after n (s (p .a)) (c .bounded (p .a) (c .ok .first)) p (p .a) (c .ok)
+        go false = later n (s (p .b)) (c .bounded (p .b) (c .ok .second))
+
+    pub line : (v : Figures) → v ≡ cond (eqb (p .a) (p .b)) (getD (set l a t) b zeros) (change (p .kind) p (p .b) (getD (set l a t) b zeros))
+        → set (set l a t) b v ≡ tabulate accounts (post p s)
+    line v ev =
+        let w : v ≡ effect p (p .b) (s (p .b)) = ev ∙ second-is s p (c .ok) (getD (set l a t) b zeros) at-b in
+        rw (w, stored, c .from, c .first, eb)
+        (changed-both accounts s (post p s) zeros (p .a) (p .b) (c .ok .second)
+        (λ k h na nb. sym (effect-untouched p k (s k) (touches-neither p k na nb))))
+
+-- a sheet is that of its figures
+pub sheet-is : (sheet : Sheet) → length (sheet .accounts) ≡ accounts → sheet ≡ sheetOf (figuresOf sheet)
+sheet-is sheet e = ap (λ (l : List Figures). record { accounts = l }) (is-tabulate accounts (figuresOf sheet) zeros (sheet .accounts) e (λ k h. refl))
+
+-- a sheet of zeros may be posted from
+pub blank-opening : Opening (figuresOf (sheetOf blank))
+blank-opening k h = rw (getD-tabulate accounts blank zeros k h) (record { position = omega arith; rate = omega arith; called = omega arith; settled = omega arith })
+
+-- ---- a record that may be posted
+
+module _ (table : Table) (delivered : Record) (ok : Postable table delivered) where
+  pub line-within : (i : ℕ) → i < delivered .count → getD (delivered .numbers) i 0 < capacity
+  line-within i h = offered-below table (getD (delivered .numbers) i 0) (ok .lines i h) .1
+
+  pub line-fields : (i : ℕ) → i < delivered .count → Fields (row table (getD (delivered .numbers) i 0))
+  line-fields i h = fields (row table (getD (delivered .numbers) i 0)) (ok .rows (getD (delivered .numbers) i 0) (ok .lines i h))
+
+  pub lines-after : (s : Books) → Opening s → (i : ℕ) → i ≤ delivered .count → i ≤ length (delivered .numbers) → (k : ℕ) → k < accounts
+      → After i (books s table (take i (delivered .numbers)) k)
+  lines-after s h i within here k b =
+      let size : length (take i (delivered .numbers)) ≡ i = length-take-le i (delivered .numbers) here in
+      subst (λ (n : ℕ). After n (books s table (take i (delivered .numbers)) k)) (omega arith)
+      (books-after table (take i (delivered .numbers)) each 0 s k (h k b))
+    where
+      each : (j : ℕ) → j < length (take i (delivered .numbers)) → Fields (row table (getD (take i (delivered .numbers)) j 0))
+      each j l =
+          let m : j < i = omega (arith, length-take-le i (delivered .numbers) here) in
+          rw (getD-take i (delivered .numbers) j 0 m) (line-fields j (omega arith))

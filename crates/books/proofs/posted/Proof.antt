@@ -1,0 +1,204 @@
+-- `books::posted` meets its contract: after i lines the sheet is that of the first i posting numbers.
+-- Assumes nothing.
+use mathlib.Core.Path.{_≡_, sym, ap, _∙_, subst⁻¹}
+use mathlib.Core.List.{List}
+use Prim.Native.Nat.{ℕ, _+_, _≤_, _<_, _-_}
+use native.Mathlib.Omega.{arith}
+use lib.ListN.{length, length-map, getD, take}
+use borrow.Author.Needs.{needs}
+use Rattle.sets.specs.Sets.{capacity}
+use Rattle.posting.specs.declared.Posting.{Posting}
+use Rattle.posting.specs.declared.Table.{Table}
+use Rattle.posting.specs.declared.Record.{Record}
+use Rattle.posting.specs.Kinds.{accounts}
+use Rattle.posting.specs.KindLaws.{Fields}
+use Rattle.posting.specs.Records.{numbersOf}
+use Rattle.posting.specs.Conflicts.{noPosting, row}
+use Rattle.books.specs.Books.{Books, post, books, figuresOf, sheetOf}
+use Rattle.books.specs.declared.Figures.{Figures}
+use Rattle.books.specs.declared.Sheet.{Sheet}
+use Rattle.books.specs.Bounds.{After, Postable}
+use Rattle.books.proofs.Lines.{next-line}
+use Rattle.books.proofs.Sheets.{Line, line, room-a, room-b, sheet-is, line-within, line-fields, lines-after}
+use Rattle.books.proofs.posted.Statement.{statement}
+use Rattle.books.proofs.posted.Tie as tie
+
+abbrev Inv-loop : tie.InvT-loop
+Inv-loop table delivered sheet₀ count i₀ sheet i = (i ≤ count) × (sheet ≡ sheetOf (books (figuresOf sheet₀) table (take i (delivered .numbers))))
+
+abbrev μ-loop : tie.MeasureT-loop
+μ-loop table delivered sheet₀ count i₀ sheet i = count - i
+
+module _ (c : tie.After-wide Inv-loop μ-loop) where
+  abbrev table : Table
+  table = c .before .before .before .before .args .t1
+
+  abbrev delivered : Record
+  delivered = c .before .before .before .before .args .t2
+
+  abbrev opening : Books
+  opening = figuresOf (c .before .before .before .before .args .opening)
+
+  abbrev postable : Postable table delivered
+  postable = c .before .before .before .before .pre .0
+
+  abbrev i : ℕ
+  i = c .before .before .before .loop .i
+
+  -- the books of the first n lines
+  abbrev books-to : ℕ → Books
+  books-to n = books opening table (take n (delivered .numbers))
+
+  abbrev posting : Posting
+  posting = getD (table .rows) (c .wide .result) noPosting
+
+  within : c .wide .result < capacity
+  within = rw (c .wide .ensures) (line-within table delivered postable i (c .before .before .loop-test .taken))
+
+  posting-is : posting ≡ row table (getD (delivered .numbers) i 0)
+  unfolding row
+  posting-is = ap (λ (m : ℕ). getD (table .rows) m noPosting) (c .wide .ensures)
+
+  ok : Fields posting
+  ok = subst⁻¹ (λ (p : Posting). Fields p) posting-is (line-fields table delivered postable i (c .before .before .loop-test .taken))
+
+  early : i < capacity
+  early = omega (arith, c .before .before .loop-test .taken, postable .within)
+
+  bounded : (k : ℕ) → k < accounts → After i (books-to i k)
+  bounded =
+      let e : length (delivered .numbers) ≡ capacity = search needs in
+      lines-after table delivered postable opening (c .before .before .before .before .pre .1) i (c .before .before .before .loop .inv .0) (omega (arith, early))
+
+  next : post posting (books-to i) ≡ books-to (i + 1)
+  next =
+      let e : length (delivered .numbers) ≡ capacity = search needs in
+      ap (λ (p : Posting). post p (books-to i)) posting-is ∙ next-line opening table (delivered .numbers) i (omega (arith, early))
+
+module _ (c : tie.After-wide2 Inv-loop μ-loop) where
+  abbrev at-wide : tie.After-wide Inv-loop μ-loop
+  at-wide = c .before .before
+
+  a-within : c .wide2 .result < accounts
+  a-within = omega (arith, ok at-wide .first, c .wide2 .ensures)
+
+  start : Line (i at-wide) (books-to at-wide (i at-wide)) (posting at-wide) (at-wide .before .before .before .loop .sheet .accounts) (c .wide2 .result)
+  start = record {
+    early = early at-wide;
+    bounded = bounded at-wide;
+    ok = ok at-wide;
+    from = ap (λ (x : Sheet). x .accounts) (at-wide .before .before .before .loop .inv .1);
+    first = c .wide2 .ensures;
+  }
+
+b-within : (c : tie.After-wide3 Inv-loop μ-loop) → c .wide3 .result < accounts
+b-within c = omega (arith, ok (c .before .before .before .before .before) .second, c .wide3 .ensures)
+
+loop-holds : tie.Need-loop-holds Inv-loop μ-loop
+unfolding books
+loop-holds c =
+    let accounts-of = c .args .opening .accounts in
+    let e : length accounts-of ≡ accounts = sym (length-map accounts-of _) ∙ c .good .1 .1 .0 .1 .1 .0 .1 .0 .1 in
+    (search needs, sheet-is (c .args .opening) e)
+
+element-copy-out-wide : tie.Need-element-copy-out-wide Inv-loop μ-loop
+element-copy-out-wide c = search needs
+
+wide-requires : tie.Need-wide-requires Inv-loop μ-loop
+wide-requires c κs = search needs
+
+mul-p : tie.Need-mul-p Inv-loop μ-loop
+mul-p c = record { fits = omega (arith, within c) }
+
+element-copy-out-p : tie.Need-element-copy-out-p Inv-loop μ-loop
+element-copy-out-p c = within c
+
+wide-requires-2 : tie.Need-wide-requires-2 Inv-loop μ-loop
+wide-requires-2 c κs = search needs
+
+mul-s : tie.Need-mul-s Inv-loop μ-loop
+mul-s c = record { fits = omega (arith, a-within c) }
+
+element-copy-out-s : tie.Need-element-copy-out-s Inv-loop μ-loop
+element-copy-out-s c = a-within c
+
+change-requires : tie.Need-change-requires Inv-loop μ-loop
+change-requires c κs = room-a (start (c .before))
+
+mul-t : tie.Need-mul-t Inv-loop μ-loop
+mul-t c = record { fits = omega (arith, a-within (c .before .before)) }
+
+element-set-from-t : tie.Need-element-set-from-t Inv-loop μ-loop
+element-set-from-t c = a-within (c .before .before)
+
+wide-requires-3 : tie.Need-wide-requires-3 Inv-loop μ-loop
+wide-requires-3 c κs = search needs
+
+mul-u : tie.Need-mul-u Inv-loop μ-loop
+mul-u c = record { fits = omega (arith, b-within c) }
+
+element-copy-out-u : tie.Need-element-copy-out-u Inv-loop μ-loop
+element-copy-out-u c = b-within c
+
+change-b-requires : tie.Need-change-b-requires Inv-loop μ-loop
+change-b-requires c κs =
+    let a = c .before .before .change in
+    let b = c .before .wide3 in
+    room-b (start (c .before .before .before .before)) (a .result) (b .result) (a .ensures) (b .ensures)
+
+mul-v : tie.Need-mul-v Inv-loop μ-loop
+mul-v c = record { fits = omega (arith, b-within (c .before .before)) }
+
+element-set-from-v : tie.Need-element-set-from-v Inv-loop μ-loop
+element-set-from-v c = b-within (c .before .before)
+
+add-i : tie.Need-add-i Inv-loop μ-loop
+add-i c = search needs
+
+loop-less : tie.Need-loop-less Inv-loop μ-loop
+loop-less c = search needs
+
+loop-again : tie.Need-loop-again Inv-loop μ-loop
+loop-again c =
+    let w = c .before .before .before .before .before in
+    let a = c .before .before .before .change in
+    let b = c .before .before .wide3 in
+    let l = line (start w) (a .result) (b .result) (a .ensures) (b .ensures) (c .change-b .result) (c .change-b .ensures) in (
+      omega (arith, w .before .before .before .before .loop-test .taken),
+      ap (λ (x : List Figures). record { accounts = x }) l ∙ ap sheetOf (next (at-wide w)),
+    )
+
+returns : tie.Need-returns Inv-loop μ-loop
+unfolding numbersOf
+returns c =
+    let b = c .before .before in
+    let e : c .before .loop .i ≡ b .args .t2 .count = omega arith in
+    c .before .loop .inv .1 ∙ ap (λ (n : ℕ). sheetOf (books (figuresOf (b .args .opening)) (b .args .t1) (take n (b .args .t2 .numbers)))) e
+
+pub posted-spec : {M : Type 1} → statement M
+posted-spec =
+    tie.close
+    (tie.spec
+    Inv-loop
+    μ-loop
+    loop-holds
+    element-copy-out-wide
+    wide-requires
+    mul-p
+    element-copy-out-p
+    wide-requires-2
+    mul-s
+    element-copy-out-s
+    change-requires
+    mul-t
+    element-set-from-t
+    wide-requires-3
+    mul-u
+    element-copy-out-u
+    change-b-requires
+    mul-v
+    element-set-from-v
+    add-i
+    loop-less
+    loop-again
+    returns)
