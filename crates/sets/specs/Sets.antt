@@ -4,7 +4,7 @@ use Prim.Native.Nat.{ℕ, _*_}
 use mathlib.Core.Bool.{Bool}
 use mathlib.Core.List.{List}
 use lib.ListN.{replicate}
-use Rattle.sets.specs.Words.{member, insert, insertIf, collect, union, intersect, isEmpty, isSubset, members, Words}
+use Rattle.sets.specs.Words.{member, insert, remove, insertIf, collect, union, intersect, isEmpty, isSubset, members, Words}
 use Rattle.sets.specs.declared.Set.{Set}
 
 -- how many words a set has, and so how many postings a board holds
@@ -25,6 +25,9 @@ has s m = member (s .words) m
 
 abbrev pub with : Set → ℕ → Set
 with s m = ofWords (insert (s .words) m)
+
+abbrev pub without : Set → ℕ → Set
+without s m = ofWords (remove (s .words) m)
 
 abbrev pub withIf : Set → ℕ → Bool → Set
 withIf s m so = ofWords (insertIf (s .words) m so)

@@ -1,9 +1,9 @@
 -- Laws of sets as lists of words: what is a member of each, what subset and empty say, the shape kept, and sets with the same members equal.
 -- Rests on Words and MaskLaws; each law holds for any number of words. Assumes nothing.
-use Prim.Native.Nat.{ℕ, zero, suc, _+_, _*_, _/_, _%_, _^_, _<_, _≤_, max}
+use Prim.Native.Nat.{ℕ, zero, suc, _+_, _*_, _-_, _/_, _%_, _^_, _<_, _≤_, max}
 use mathlib.Core.Path.{_≡_, refl, sym, ap, ap₂, _∙_}
 use mathlib.Core.Logic.{inl, inr, _≢_}
-use mathlib.Core.Bool.{Bool, true, false, cond, _&&_, _||_, or-false, and-false, and-true}
+use mathlib.Core.Bool.{Bool, true, false, cond, _&&_, _||_, not, or-false, and-false, and-true}
 use mathlib.Core.List.{List, [], _∷_, append-nil}
 use native.Mathlib.Omega.{arith}
 use native.Mathlib.Decide.{ℕ-discrete, decLt}
@@ -14,11 +14,11 @@ use lib.Bits.{bitOr, bitAnd, or-lt, and-lt, and-le-l, and-zero-l, and-zero-r}
 use lib.Pow.{pow-lt}
 use borrow.Author.Tests.{eq-eqb, ne-eqb, eqb-true, lt-ltb, le-ltb, ltb-true}
 use Rattle.sets.specs.Masks.{hasBit}
-use Rattle.sets.specs.MaskLaws.{has-bit-zero, has-bit-or, has-bit-and, has-bit-set, bits-ext}
+use Rattle.sets.specs.MaskLaws.{has-bit-zero, has-bit-or, has-bit-and, has-bit-set, has-bit-clear, bits-ext}
 use Rattle.sets.specs.Truth.{test, never, both-ways, and-left, and-right, and-implied}
 use Rattle.sets.specs.Numbers.{listed, distinct, rising}
 use Rattle.sets.specs.NumberLaws.{listed-append, rising-last, rising-distinct}
-use Rattle.sets.specs.Words.{word, member, insert, insertIf, wordwise, union, intersect, isEmpty, isSubset, collect, membersBelow, members, Words}
+use Rattle.sets.specs.Words.{word, member, insert, remove, insertIf, wordwise, union, intersect, isEmpty, isSubset, collect, membersBelow, members, Words}
 
 -- ---- words
 
@@ -87,26 +87,56 @@ pub insert-past : (ws : List ℕ) (m : ℕ) → 64 * length ws ≤ m → insert 
 unfolding insert
 insert-past ws m h = let l : length ws ≤ m / 64 = omega arith in set-out ws (m / 64) _ l
 
+-- numbers of one word are equal if their bits are
+same-bit : (x m : ℕ) → x / 64 ≡ m / 64 → eqb (x % 64) (m % 64) ≡ eqb x m
+same-bit x m q = elim (ℕ-discrete x m) [
+  | yes e ↦ rw e (eq-eqb (m % 64) (m % 64) refl ∙ sym (eq-eqb m m refl))
+  | no d ↦ ne-eqb (x % 64) (m % 64) (omega arith) ∙ sym (ne-eqb x m d)
+]
+
 pub member-insert : (ws : List ℕ) (m x : ℕ) → m < 64 * length ws → member (insert ws m) x ≡ (member ws x || eqb x m)
 unfolding member insert
-member-insert ws m x h = go (ℕ-discrete (x / 64) (m / 64))
+member-insert ws m x h = elim (ℕ-discrete (x / 64) (m / 64)) [
+  | yes q ↦
+      let i : m / 64 < length ws = omega arith in
+      rw (q, getD-set-same ws (m / 64) new 0 i)
+      (has-bit-set (word ws (m / 64)) (m % 64) (x % 64)
+      ∙ ap (λ (b : Bool). hasBit (word ws (m / 64)) (x % 64) || b) (same-bit x m q))
+  | no d ↦
+      let n : x ≡ m → ⊥ = omega arith in
+      rw (getD-set-other ws (m / 64) (x / 64) new 0 d, ne-eqb x m n) (sym (or-false (hasBit (word ws (x / 64)) (x % 64))))
+]
   where
     new : ℕ
     new = bitOr (word ws (m / 64)) (2 ^ (m % 64))
 
-    same : Dec (x ≡ m) → x / 64 ≡ m / 64 → eqb (x % 64) (m % 64) ≡ eqb x m
-    same (yes e) q = rw e (eq-eqb (m % 64) (m % 64) refl ∙ sym (eq-eqb m m refl))
-    same (no d) q = ne-eqb (x % 64) (m % 64) (omega arith) ∙ sym (ne-eqb x m d)
+pub remove-past : (ws : List ℕ) (m : ℕ) → 64 * length ws ≤ m → remove ws m ≡ ws
+unfolding remove
+remove-past ws m h = let l : length ws ≤ m / 64 = omega arith in set-out ws (m / 64) _ l
 
-    go : Dec (x / 64 ≡ m / 64) → hasBit (word (set ws (m / 64) new) (x / 64)) (x % 64) ≡ (hasBit (word ws (x / 64)) (x % 64) || eqb x m)
-    go (yes q) =
-        let i : m / 64 < length ws = omega arith in
-        rw (q, getD-set-same ws (m / 64) new 0 i)
-        (has-bit-set (word ws (m / 64)) (m % 64) (x % 64)
-        ∙ ap (λ (b : Bool). hasBit (word ws (m / 64)) (x % 64) || b) (same (ℕ-discrete x m) q))
-    go (no d) =
-        let n : x ≡ m → ⊥ = omega arith in
-        rw (getD-set-other ws (m / 64) (x / 64) new 0 d, ne-eqb x m n) (sym (or-false (hasBit (word ws (x / 64)) (x % 64))))
+pub member-remove : (ws : List ℕ) (m x : ℕ) → member (remove ws m) x ≡ (member ws x && not (eqb x m))
+member-remove ws m x = elim (decLt m (64 * length ws)) [
+  | yes h ↦ at h
+  | no h ↦ let l : 64 * length ws ≤ m = omega arith in ap (λ (vs : List ℕ). member vs x) (remove-past ws m l) ∙ sym (past l)
+]
+  where
+    past : 64 * length ws ≤ m → (member ws x && not (eqb x m)) ≡ member ws x
+    past l = and-implied (member ws x) (not (eqb x m)) (λ t. ap not (ne-eqb x m (λ e. never t (member-past ws x (omega arith)))))
+
+    new : ℕ
+    new = bitAnd (word ws (m / 64)) ((2 ^ 64 - 1) - 2 ^ (m % 64))
+
+    at : m < 64 * length ws → member (remove ws m) x ≡ (member ws x && not (eqb x m))
+    at h = unfold member remove in elim (ℕ-discrete (x / 64) (m / 64)) [
+      | yes q ↦
+          let i : m / 64 < length ws = omega arith in
+          rw (q, getD-set-same ws (m / 64) new 0 i)
+          (has-bit-clear 64 (word ws (m / 64)) (m % 64) (x % 64) (omega arith) (omega arith)
+          ∙ ap (λ (b : Bool). hasBit (word ws (m / 64)) (x % 64) && not b) (same-bit x m q))
+      | no d ↦
+          let n : x ≡ m → ⊥ = omega arith in
+          rw (getD-set-other ws (m / 64) (x / 64) new 0 d, ne-eqb x m n) (sym (and-true (hasBit (word ws (x / 64)) (x % 64))))
+    ]
 
 -- ---- subset and empty
 
@@ -172,19 +202,33 @@ member-none {k} ws s h = words-empty ws (λ i l. each i (omega (arith, s .long))
 pub empty-shape : (k : ℕ) → Words k (replicate k 0)
 empty-shape k = record { long = length-replicate {A = ℕ} k 0; small = λ i h. rw (getD-replicate {A = ℕ} k i 0 0 h) (lit< tt) }
 
+-- one word anew
+pub set-shape : {k : ℕ} (ws : List ℕ) (j new : ℕ) → Words k ws → new < 2 ^ 64 → Words k (set ws j new)
+set-shape {k} ws j new s n = record { long = length-set ws j new ∙ s .long; small = λ i h. each i h (ℕ-discrete i j) }
+  where
+    each : (i : ℕ) → i < k → Dec (i ≡ j) → word (set ws j new) i < 2 ^ 64
+    each i h (yes e) = let l : j < length ws = omega (arith, s .long) in rw (e, getD-set-same ws j new 0 l) n
+    each i h (no d) = rw (getD-set-other ws j i new 0 d) (s .small i h)
+
+-- a word of the set, or 0 past its end
+pub word-small : {k : ℕ} (ws : List ℕ) (i : ℕ) → Words k ws → word ws i < 2 ^ 64
+word-small {k} ws i s = elim (decLt i k) [
+  | yes h ↦ s .small i h
+  | no h ↦ let l : length ws ≤ i = omega (arith, s .long) in rw (List·getD-eq-default ws 0 l) (lit< tt)
+]
+
 pub insert-shape : {k : ℕ} (ws : List ℕ) (m : ℕ) → Words k ws → Words k (insert ws m)
 unfolding insert
-insert-shape {k} ws m s = record { long = length-set ws (m / 64) new ∙ s .long; small = λ i h. each i h (ℕ-discrete i (m / 64)) }
-  where
-    new : ℕ
-    new = bitOr (word ws (m / 64)) (2 ^ (m % 64))
+insert-shape ws m s =
+    set-shape ws (m / 64) _ s
+    (or-lt 64 (word ws (m / 64)) (2 ^ (m % 64)) (word-small ws (m / 64) s) (pow-lt {j = 64} (omega arith)))
 
-    each : (i : ℕ) → i < k → Dec (i ≡ m / 64) → word (set ws (m / 64) new) i < 2 ^ 64
-    each i h (yes e) =
-        let l : m / 64 < length ws = omega (arith, s .long) in
-        rw (e, getD-set-same ws (m / 64) new 0 l)
-        (or-lt 64 (word ws (m / 64)) (2 ^ (m % 64)) (s .small (m / 64) (omega arith)) (pow-lt {j = 64} (omega arith)))
-    each i h (no d) = rw (getD-set-other ws (m / 64) i new 0 d) (s .small i h)
+pub remove-shape : {k : ℕ} (ws : List ℕ) (m : ℕ) → Words k ws → Words k (remove ws m)
+unfolding remove
+remove-shape ws m s =
+    let l : bitAnd (word ws (m / 64)) ((2 ^ 64 - 1) - 2 ^ (m % 64)) < 2 ^ 64
+    = omega (arith, and-le-l (word ws (m / 64)) ((2 ^ 64 - 1) - 2 ^ (m % 64)), word-small ws (m / 64) s) in
+    set-shape ws (m / 64) _ s l
 
 pub collect-shape : (k : ℕ) (p : ℕ → Bool) (n : ℕ) → Words k (collect k p n)
 unfolding collect insertIf

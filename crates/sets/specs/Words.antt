@@ -1,6 +1,6 @@
 -- A set of numbers as a list of 64-bit words: number m is bit m % 64 of word m / 64.
 -- Rests on Masks. The definitions hold for lists of any length; a word that is not there counts as 0, so a number past the last word is in no set.
-use Prim.Native.Nat.{ℕ, zero, suc, _*_, _/_, _%_, _^_, _<_}
+use Prim.Native.Nat.{ℕ, zero, suc, _*_, _-_, _/_, _%_, _^_, _<_}
 use mathlib.Core.Path.{_≡_}
 use mathlib.Core.Bool.{Bool, true, cond, _&&_}
 use mathlib.Core.List.{List, [], _∷_, _++_}
@@ -20,6 +20,10 @@ member ws m = hasBit (word ws (m / 64)) (m % 64)
 -- the set with m; without a word for m, the set as it is
 unfoldable pub insert : List ℕ → ℕ → List ℕ
 insert ws m = set ws (m / 64) (bitOr (word ws (m / 64)) (2 ^ (m % 64)))
+
+-- the set without m; without a word for m, the set as it is
+unfoldable pub remove : List ℕ → ℕ → List ℕ
+remove ws m = set ws (m / 64) (bitAnd (word ws (m / 64)) ((2 ^ 64 - 1) - 2 ^ (m % 64)))
 
 -- the set with m if so
 unfoldable pub insertIf : List ℕ → ℕ → Bool → List ℕ

@@ -1,0 +1,241 @@
+-- Laws of the arrays of receivers and of GOODs: which messages and GOODs they hold once receivers were sent to or one was taken out, receivers
+-- sent to one after the other, and that an array of n masks keeps its shape, Bytes n. Rests on Flights and CellLaws. Assumes nothing.
+use Prim.Native.Nat.{ℕ, zero, suc, _^_, _<_, _≤_}
+use mathlib.Core.Path.{_≡_, refl, sym, ap, _∙_}
+use mathlib.Core.Logic.{inl, inr, _≢_}
+use mathlib.Core.Bool.{Bool, true, false, cond, not, _&&_, _||_, or-false, and-true, and-assoc, and-or-distrib-left}
+use mathlib.Core.List.{List}
+use native.Mathlib.Omega.{arith}
+use native.Mathlib.Nat.{sub-zero}
+use native.Mathlib.Decide.{ℕ-discrete, decLt}
+use lib.Dec.{eqb, ltb, lit<}
+use lib.ListN.{length, getD, set, replicate, length-set, length-replicate, List·getD-eq-default}
+use lib.Seq.{getD-set-same, getD-set-other, set-out, set-set, set-getD}
+use lib.Bits.{bitOr, or-lt, or-zero-r, and-zero-r}
+use borrow.Author.Tests.{ltb-true, eqb-true, eqb-false}
+use Rattle.sets.specs.Masks.{hasBit}
+use Rattle.sets.specs.MaskLaws.{has-bit-or, has-bit-pow, bits-ext}
+use Rattle.sets.specs.Truth.{test, never, and-left, and-right, and-implied, not-so}
+use Rattle.sets.specs.Sets.{capacity}
+use Rattle.site.specs.Sites.{sites}
+use Rattle.site.specs.Sends.{forms}
+use Rattle.flight.specs.Flights.{pairs, cells, isCell, pairAt, cellAt, receiversIn, messageIn, goodIn, less, sendingTo, takingFrom, saying, Bytes}
+use Rattle.flight.specs.CellLaws.{or-assoc-below, has-bit-less, sameCell, same-cell, pair-below, pair-same, cell-range, range-cell, cell-below, cell-out, cell-same, get-set}
+
+-- ---- shape
+
+pub byte-small : {n : ℕ} (l : List ℕ) (i : ℕ) → Bytes n l → getD l i 0 < 2 ^ 8
+byte-small {n} l i s = elim (decLt i n) [
+  | yes h ↦ s .small i h
+  | no h ↦ let e : length l ≤ i = omega (arith, s .long) in rw (List·getD-eq-default l 0 e) (lit< tt)
+]
+
+pub set-bytes : {n : ℕ} (l : List ℕ) (j v : ℕ) → Bytes n l → v < 2 ^ 8 → Bytes n (set l j v)
+set-bytes {n} l j v s b = record { long = length-set l j v ∙ s .long; small = λ i h. each i h (ℕ-discrete i j) }
+  where
+    each : (i : ℕ) → i < n → Dec (i ≡ j) → getD (set l j v) i 0 < 2 ^ 8
+    each i h (yes e) = let k : j < length l = omega (arith, s .long) in rw (e, getD-set-same l j v 0 k) b
+    each i h (no d) = rw (getD-set-other l j i v 0 d) (s .small i h)
+
+pub zero-at : (n i : ℕ) → _≡_ {A = ℕ} (getD (replicate n 0) i 0) 0
+zero-at zero i = refl
+zero-at (suc n) zero = refl
+zero-at (suc n) (suc i) = zero-at n i
+
+pub zero-bytes : (n : ℕ) → Bytes n (replicate n 0)
+zero-bytes n = record { long = length-replicate {A = ℕ} n 0; small = λ i h. rw (zero-at n i) (lit< tt) }
+
+module _ (masks : List ℕ) (s : Bytes cells masks) (form m from : ℕ) where
+  pub sending-bytes : (receivers : ℕ) → receivers < 2 ^ 8 → Bytes cells (sendingTo masks form m from receivers)
+  unfolding sendingTo
+  sending-bytes receivers h =
+      set-bytes masks (cellAt form m from) _ s
+      (or-lt 8 (receiversIn masks form m from) receivers (byte-small masks (cellAt form m from) s) h)
+
+  pub taking-bytes : (to : ℕ) → Bytes cells (takingFrom masks form m from to)
+  unfolding takingFrom
+  taking-bytes to =
+      let b : less (receiversIn masks form m from) (2 ^ to) < 2 ^ 8 = omega (arith, byte-small masks (cellAt form m from) s) in
+      set-bytes masks (cellAt form m from) _ s b
+
+pub clearing-bytes : (good : List ℕ) → Bytes pairs good → (m from receivers : ℕ) → Bytes pairs (saying good m from receivers false)
+unfolding saying
+clearing-bytes good s m from receivers =
+    let b : less (goodIn good m from) receivers < 2 ^ 8 = omega (arith, byte-small good (pairAt m from) s) in
+    set-bytes good (pairAt m from) _ s b
+
+pub saying-bytes : (good : List ℕ) → Bytes pairs good → (m from receivers : ℕ) (so : Bool) → receivers < 2 ^ 8 → Bytes pairs (saying good m from receivers so)
+unfolding saying
+saying-bytes good s m from receivers true h =
+    set-bytes good (pairAt m from) _ s (or-lt 8 (goodIn good m from) receivers (byte-small good (pairAt m from) s) h)
+saying-bytes good s m from receivers false h = clearing-bytes good s m from receivers
+
+-- ---- messages
+
+-- a message in flight is in range
+pub message-range :
+    (masks : List ℕ) (form m from to : ℕ) → messageIn masks form m from to ≡ true → (form < forms) × (m < capacity) × (from < sites) × (to < sites)
+unfolding messageIn
+message-range masks form m from to t =
+    let bit = hasBit (receiversIn masks form m from) to in
+    let (h, hm, hf) = cell-range form m from (and-left (isCell form m from) (ltb to sites && bit) t) in
+    (h, hm, hf, ltb-true to sites (and-left (ltb to sites) bit (and-right (isCell form m from) (ltb to sites && bit) t)))
+
+module _ (masks : List ℕ) (long : length masks ≡ cells) where
+  -- one cell set
+  message-set :
+      (form m from mask : ℕ) → form < forms → m < capacity → from < sites → (f x a b : ℕ)
+      → messageIn (set masks (cellAt form m from) mask) f x a b
+      ≡ cond (sameCell f x a form m from) (ltb b sites && hasBit mask b) (messageIn masks f x a b)
+  unfolding messageIn
+  message-set form m from mask h hm hf f x a b = elim (test (sameCell f x a form m from)) [
+    | inl t ↦
+        let (e, g, i) = same-cell f x a form m from t in
+        let l : cellAt form m from < length masks = omega (arith, cell-below form m from h hm hf) in
+        rw (t, e, g, i, range-cell form m from h hm hf, getD-set-same masks (cellAt form m from) mask 0 l)
+    | inr n ↦
+        let d : cellAt f x a ≢ cellAt form m from = eqb-false (cellAt f x a) (cellAt form m from) (cell-same f x a form m from h hm hf ∙ n) in
+        rw (n, getD-set-other masks (cellAt form m from) (cellAt f x a) mask 0 d)
+  ]
+
+  -- receivers sent to
+  pub message-sent :
+      (form m from receivers : ℕ) → form < forms → m < capacity → from < sites → (f x a b : ℕ)
+      → messageIn (sendingTo masks form m from receivers) f x a b
+      ≡ (messageIn masks f x a b || sameCell f x a form m from && (ltb b sites && hasBit receivers b))
+  unfolding sendingTo
+  message-sent form m from receivers h hm hf f x a b =
+      message-set form m from (bitOr (receiversIn masks form m from) receivers) h hm hf f x a b
+      ∙ elim (test (sameCell f x a form m from)) [
+        | inl t ↦
+            let (e, g, i) = same-cell f x a form m from t in
+            let old = hasBit (receiversIn masks form m from) b in
+            rw (t, e, g, i) (unfold messageIn in
+            rw (range-cell form m from h hm hf, has-bit-or (receiversIn masks form m from) receivers b)
+            (and-or-distrib-left (ltb b sites) old (hasBit receivers b)))
+        | inr n ↦ rw n (sym (or-false (messageIn masks f x a b)))
+      ]
+
+  -- a receiver taken out
+  pub message-taken :
+      (form m from to f x a b : ℕ)
+      → messageIn (takingFrom masks form m from to) f x a b ≡ (messageIn masks f x a b && not (sameCell f x a form m from && eqb b to))
+  unfolding takingFrom
+  message-taken form m from to f x a b = elim (test (isCell form m from)) [
+    | inl c ↦
+        let (h, hm, hf) = cell-range form m from c in
+        message-set form m from (less (receiversIn masks form m from) (2 ^ to)) h hm hf f x a b ∙ within c
+    | inr c ↦
+        let l : length masks ≤ cellAt form m from = omega (arith, cell-out form m from c) in
+        rw (set-out masks (cellAt form m from) (less (receiversIn masks form m from) (2 ^ to)) l) (sym (outside c))
+  ]
+    where
+      within : isCell form m from ≡ true → cond (sameCell f x a form m from) (ltb b sites && hasBit (less (receiversIn masks form m from) (2 ^ to)) b) (messageIn masks f x a b)
+          ≡ (messageIn masks f x a b && not (sameCell f x a form m from && eqb b to))
+      within c = elim (test (sameCell f x a form m from)) [
+        | inl t ↦
+            let (e, g, i) = same-cell f x a form m from t in
+            let old = hasBit (receiversIn masks form m from) b in
+            rw (t, e, g, i) (unfold messageIn in
+            rw (c, has-bit-less (receiversIn masks form m from) (2 ^ to) b, has-bit-pow to b)
+            (sym (and-assoc (ltb b sites) old (not (eqb b to)))))
+        | inr n ↦ rw n (sym (and-true (messageIn masks f x a b)))
+      ]
+
+      outside : isCell form m from ≡ false → (messageIn masks f x a b && not (sameCell f x a form m from && eqb b to)) ≡ messageIn masks f x a b
+      outside c =
+          and-implied (messageIn masks f x a b) (not (sameCell f x a form m from && eqb b to))
+          (λ t. ap not (not-so (sameCell f x a form m from && eqb b to) (λ s.
+          let (e, g, i) = same-cell f x a form m from (and-left (sameCell f x a form m from) (eqb b to) s) in
+          let (h, hm, hf, _) = message-range masks f x a b t in
+          never (rw (e, g, i) at (range-cell f x a h hm hf)) c)))
+
+-- ---- GOODs
+
+module _ (good : List ℕ) (long : length good ≡ pairs) where
+  -- receivers told: the new verdict is theirs, the others keep theirs
+  pub good-said :
+      (m from receivers : ℕ) (so : Bool) → m < capacity → from < sites → (x a b : ℕ)
+      → hasBit (goodIn (saying good m from receivers so) x a) b
+      ≡ cond (eqb x m && eqb a from && hasBit receivers b) so (hasBit (goodIn good x a) b)
+  unfolding saying
+  good-said m from receivers so hm hf x a b =
+      let new = cond so (bitOr (goodIn good m from) receivers) (less (goodIn good m from) receivers) in
+      let l : pairAt m from < length good = omega (arith, pair-below m from hm hf) in
+      ap (λ (w : ℕ). hasBit w b) (get-set good (pairAt m from) (pairAt x a) new l)
+      ∙ ap (λ (t : Bool). hasBit (cond t new (goodIn good x a)) b) (pair-same x a m from hm hf)
+      ∙ elim (test (eqb x m && eqb a from)) [
+        | inl t ↦
+            let e : x ≡ m = eqb-true x m (and-left (eqb x m) (eqb a from) t) in
+            let g : a ≡ from = eqb-true a from (and-right (eqb x m) (eqb a from) t) in
+            rw (t, e, g) (told so (goodIn good m from))
+        | inr n ↦ rw n
+      ]
+    where
+      told : (v : Bool) (w : ℕ) → hasBit (cond v (bitOr w receivers) (less w receivers)) b ≡ cond (hasBit receivers b) v (hasBit w b)
+      told true w = has-bit-or w receivers b ∙ joined (hasBit w b) (hasBit receivers b)
+        where
+          joined : (u r : Bool) → (u || r) ≡ cond r true u
+          joined true true = refl
+          joined true false = refl
+          joined false true = refl
+          joined false false = refl
+      told false w = has-bit-less w receivers b ∙ cleared (hasBit w b) (hasBit receivers b)
+        where
+          cleared : (u r : Bool) → (u && not r) ≡ cond r false u
+          cleared true true = refl
+          cleared true false = refl
+          cleared false true = refl
+          cleared false false = refl
+
+-- ---- the same sent twice
+
+-- a place set, and set again by what stands there
+set-twice : (l : List ℕ) (i v : ℕ) (f : ℕ → ℕ) → set (set l i v) i (f (getD (set l i v) i 0)) ≡ set l i (f v)
+set-twice l i v f = elim (decLt i (length l)) [
+  | yes h ↦ rw (getD-set-same l i v 0 h) (set-set l i v (f v))
+  | no h ↦
+      let b : length l ≤ i = omega arith in
+      rw (set-out l i v b) (set-out l i (f (getD l i 0)) b ∙ sym (set-out l i (f v) b))
+]
+
+pub sending-none : (masks : List ℕ) (form m from : ℕ) → sendingTo masks form m from 0 ≡ masks
+unfolding sendingTo
+sending-none masks form m from = rw (or-zero-r (receiversIn masks form m from)) (set-getD masks (cellAt form m from) 0)
+
+pub saying-none : (good : List ℕ) (m from : ℕ) (so : Bool) → saying good m from 0 so ≡ good
+unfolding saying
+saying-none good m from true = rw (or-zero-r (goodIn good m from)) (set-getD good (pairAt m from) 0)
+saying-none good m from false = rw (and-zero-r (goodIn good m from), sub-zero (goodIn good m from)) (set-getD good (pairAt m from) 0)
+
+module _ (masks : List ℕ) (s : Bytes cells masks) (form m from : ℕ) where
+  pub sending-twice :
+      (r q : ℕ) → r < 2 ^ 8 → q < 2 ^ 8 → sendingTo (sendingTo masks form m from r) form m from q ≡ sendingTo masks form m from (bitOr r q)
+  unfolding sendingTo
+  sending-twice r q hr hq =
+      let i = cellAt form m from in
+      set-twice masks i (bitOr (getD masks i 0) r) (λ w. bitOr w q)
+      ∙ ap (set masks i) (or-assoc-below 8 (getD masks i 0) r q (byte-small masks i s) hr hq)
+
+less-less : (n u r q : ℕ) → u < 2 ^ n → less (less u r) q ≡ less u (bitOr r q)
+less-less n u r q h =
+    bits-ext n (less (less u r) q) (less u (bitOr r q)) (omega arith) (omega arith)
+    (λ k b. rw (has-bit-less (less u r) q k, has-bit-less u r k, has-bit-less u (bitOr r q) k, has-bit-or r q k)
+    (each (hasBit u k) (hasBit r k) (hasBit q k)))
+  where
+    each : (a b c : Bool) → (a && not b && not c) ≡ (a && not (b || c))
+    each true true c = refl
+    each true false c = refl
+    each false b c = refl
+
+module _ (good : List ℕ) (s : Bytes pairs good) (m from : ℕ) where
+  pub saying-twice : (so : Bool) (r q : ℕ) → r < 2 ^ 8 → q < 2 ^ 8 → saying (saying good m from r so) m from q so ≡ saying good m from (bitOr r q) so
+  unfolding saying
+  saying-twice true r q hr hq =
+      let i = pairAt m from in
+      set-twice good i (bitOr (getD good i 0) r) (λ w. bitOr w q)
+      ∙ ap (set good i) (or-assoc-below 8 (getD good i 0) r q (byte-small good i s) hr hq)
+  saying-twice false r q hr hq =
+      let i = pairAt m from in
+      set-twice good i (less (getD good i 0) r) (λ w. less w q)
+      ∙ ap (set good i) (less-less 8 (getD good i 0) r q (byte-small good i s))

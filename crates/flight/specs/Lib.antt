@@ -1,0 +1,5 @@
+pub mod Flights
+pub mod CellLaws
+pub mod ArrayLaws
+pub mod CarriedLaws
+pub mod FlightLaws

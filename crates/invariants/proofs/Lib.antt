@@ -1,0 +1,16 @@
+pub mod Shapes
+pub mod Sound
+pub mod SoundTest
+pub mod SiteSound
+pub mod StepSound
+pub mod Judged
+pub mod CarriedOut
+pub mod Room
+pub mod History
+pub mod Grow
+pub mod PoolSound
+pub mod FlightSound
+pub mod Kept
+pub mod Reached
+pub mod Start
+pub mod Quiet

@@ -1,0 +1,6 @@
+pub mod Boards
+pub mod Soundness
+pub mod Calls
+pub mod Runs
+pub mod History
+pub mod Figures
