@@ -3,3 +3,5 @@ pub mod CellLaws
 pub mod ArrayLaws
 pub mod CarriedLaws
 pub mod FlightLaws
+pub mod SendLaws
+pub mod BroadcastLaws

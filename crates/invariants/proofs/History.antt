@@ -151,7 +151,7 @@ module _ (b : Board) (shape : BoardShape b) (few : b .setup .n ≤ sites) (p m :
     | no d ↦ rw (ne-eqb q p d, out-site-other b p m step cut q d)
   ]
 
-out-is-down : (b : Board) (p m : ℕ) (step : Step) (cut : Cut) (q : ℕ) → isDown (carriedOut b p m step cut) q ≡ (isDown b q || isCut cut && eqb q p)
+pub out-is-down : (b : Board) (p m : ℕ) (step : Step) (cut : Cut) (q : ℕ) → isDown (carriedOut b p m step cut) q ≡ (isDown b q || isCut cut && eqb q p)
 out-is-down b p m step Whole q = rw (out-down b p m step Whole) (sym (or-false (isDown b q)))
 out-is-down b p m step (After j) q = rw (out-down b p m step (After j)) (has-bit-set (b .down) p q)
 

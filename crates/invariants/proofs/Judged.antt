@@ -77,7 +77,7 @@ pub record Acts (b : Board) (p : ℕ) (step : Step) (cut : Cut) : Type 0 where
   pub crashes : isCut cut ≡ true → ones (b .down) < b .setup .f
   pub within : cutAfter cut ≤ length (step .sends)
 
-abbrev postingOf : ℕ → ℕ → ℕ → ℕ → ℕ → Posting
+abbrev pub postingOf : ℕ → ℕ → ℕ → ℕ → ℕ → Posting
 postingOf site kind account other amount = record { owner = site; kind = kind; a = account; b = other; amount = amount }
 
 abbrev pub offerStep : Board → ℕ → Step

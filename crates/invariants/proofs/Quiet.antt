@@ -32,25 +32,13 @@ use Rattle.machine.specs.declared.Outcome.{Outcome}
 use Rattle.machine.specs.Boards.{siteAt, isDown}
 use Rattle.machine.specs.Soundness.{isSound}
 use Rattle.machine.specs.Calls.{Cause, judged, noSuchSite, receiptOf, receiving, ordering, reading}
-use Rattle.machine.specs.Runs.{taking, accepted, upMask, isQuiet}
+use Rattle.machine.specs.Runs.{taking, accepted, upMask, isQuiet, isAction, NothingLeft}
 use Rattle.invariants.proofs.Sound.{Sound, no-bits}
 use Rattle.invariants.proofs.SoundTest.{facts-sound}
 use Rattle.invariants.proofs.Judged.{NoneApply, Acts, readStep, receipt-taken, order-taken, read-taken}
 use Rattle.invariants.proofs.FlightSound.{in-cell, cell-in-flight, bit-below}
 use Rattle.invariants.proofs.Kept.{cells-below}
 use Rattle.invariants.proofs.Reached.{Good, good-sites}
-
--- a receive, an order or a read
-abbrev pub isAction : Call → Bool
-isAction (Offer site kind account other amount cut) = false
-isAction (Receive form m from to cut) = true
-isAction (Order m) = true
-isAction (Read site cut) = true
-isAction (Crash site) = false
-
--- none is left to do
-abbrev pub NothingLeft : Board → Type 0
-NothingLeft b = (c : Call) → isAction c ≡ true → accepted (taking b c .answer) ≡ false
 
 -- ---- nothing comes
 

@@ -62,11 +62,11 @@ pub record Good (b : Board) : Type 0 where
 pub good-sites : (b : Board) → Good b → b .setup .n ≤ sites
 good-sites b g = (setup-sites (b .setup) (g .sound .setup)) .1
 
-good-flight : (b : Board) → Good b → FlightSound (b .table) (b .setup .n) (b .flight)
+pub good-flight : (b : Board) → Good b → FlightSound (b .table) (b .setup .n) (b .flight)
 good-flight b g = flight-facts b (cells-below b (g .shape) (g .sound .each-cell)) (g .sound .each-cell)
 
 -- a place before the count holds a number of the record
-at-listed : (l : List ℕ) (count i : ℕ) → i < count → count ≤ length l → listed (getD l i 0) (take count l) ≡ true
+pub at-listed : (l : List ℕ) (count i : ℕ) → i < count → count ≤ length l → listed (getD l i 0) (take count l) ≡ true
 unfolding listed
 at-listed [] count i h k = absurd (omega arith)
 at-listed (x ∷ l) zero i h k = absurd (omega arith)

@@ -32,7 +32,7 @@ use Rattle.invariants.proofs.Shapes.{SiteShape}
 use Rattle.invariants.proofs.Sound.{Offers, MaskSound, RecordSound, SiteSound, TallySound}
 use Rattle.invariants.proofs.SiteSound.{offers-with, offers-withIf, offers-join, offers-meet, shape-withIf, mask-plus, mask-plusIf, AllOffered, deliveringAll-sound, deliveringAll-places, site-seen, site-heard, site-stepped, site-finished, site-got, site-place, site-delivered}
 
-all-offered : (t : Table) (m : ℕ) → offered t m ≡ true → (l : List ℕ) → ((x : ℕ) → listed x l ≡ true → offered t x ≡ true) → AllOffered t (l ++ (m ∷ []))
+pub all-offered : (t : Table) (m : ℕ) → offered t m ≡ true → (l : List ℕ) → ((x : ℕ) → listed x l ≡ true → offered t x ≡ true) → AllOffered t (l ++ (m ∷ []))
 unfolding listed
 all-offered t m o [] h = (o, tt)
 all-offered t m o (x ∷ l) h = (h x (or-left (eqb x x) (listed x l) (eq-eqb x x refl)), all-offered t m o l (λ y k. h y (or-right (eqb y x) (listed y l) k)))

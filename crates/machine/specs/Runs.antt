@@ -1,6 +1,7 @@
 -- A call as a value, the run of any list of calls from a board, and what an accepted call names.
 -- Rests on Calls. The numbers of a call are unbounded; a refused call's board is passed on, and nothing is filtered or stops.
 use Prim.Native.Nat.{ℕ, _-_, _^_}
+use mathlib.Core.Path.{_≡_}
 use mathlib.Core.Bool.{Bool, true, false, _&&_, _||_}
 use mathlib.Core.List.{List, [], _∷_}
 use lib.Dec.{leb}
@@ -52,3 +53,17 @@ isQuiet b =
     nothingComes (b .flight .masks) (upMask b)
     && (isEmptySet (b .pool)
     && allBelow (λ p. isDown b p || leb (b .log .count) (siteAt b p .place)) (b .setup .n))
+
+-- ---- none is left to do
+
+-- a receive, an order or a read
+abbrev pub isAction : Call → Bool
+isAction (Offer site kind account other amount cut) = false
+isAction (Receive form m from to cut) = true
+isAction (Order m) = true
+isAction (Read site cut) = true
+isAction (Crash site) = false
+
+-- every receive, order and read would be refused
+abbrev pub NothingLeft : Board → Type 0
+NothingLeft b = (c : Call) → isAction c ≡ true → accepted (taking b c .answer) ≡ false

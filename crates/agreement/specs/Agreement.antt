@@ -1,0 +1,62 @@
+-- The books agree: demand 3 of a list of calls, clause by clause, in the words of document 01, "The lists of demand 3".
+-- Rests on machine's definitions, which the public methods promise, and on Lists for lists of numbers. The proof is in proofs/Proved.
+use Prim.Native.Nat.{ℕ, _+_, _*_, _<_, _≤_}
+use mathlib.Core.Path.{_≡_}
+use mathlib.Core.Bool.{true, false}
+use mathlib.Core.List.{List, [], _++_}
+use lib.ListN.{length, getD}
+use Rattle.sets.specs.Sets.{has}
+use Rattle.posting.specs.Conflicts.{noPosting, conflict}
+use Rattle.books.specs.Books.{blank, books, numbers}
+use Rattle.machine.specs.declared.Board.{Board}
+use Rattle.machine.specs.declared.Call.{Call}
+use Rattle.machine.specs.Runs.{running, NothingLeft}
+use Rattle.machine.specs.History.{acceptedCalls, offers, orders, broughtDown, naming, actions}
+use Rattle.machine.specs.Figures.{recordOf, figuresOf}
+use Rattle.broadcast.specs.Lists.{In, NoRepeat, Before, Exchanges, share}
+
+-- most receipts, log entries and log readings for a posting
+abbrev pub ceilingOf : ℕ → ℕ
+ceilingOf n = 2 * (n * n) + n + 1
+
+-- ---- one order, on the board b that a list ends on
+
+-- Of n sites, with this order: `matrix` tells which kinds conflict. A site that is down counts like one that is up.
+pub record OneOrder (n matrix : ℕ) (b : Board) (order : List ℕ) : Type 0 where
+  -- 1. It has each posting delivered anywhere once, and no other.
+  pub once : NoRepeat order
+  pub delivered : (x : ℕ) → In x order → (p : ℕ) × (p < n) × In x (recordOf b p)
+  pub complete : (p x : ℕ) → p < n → In x (recordOf b p) → In x order
+  -- 2. A site's record becomes its share of the order by exchanging neighbours that don't conflict,
+  pub becomes-share : (p : ℕ) → p < n → Exchanges (conflict matrix (b .table)) (recordOf b p) (share (recordOf b p) order)
+  -- 3. and has, with every posting y, each conflicting x that stands ahead of y in the order.
+  pub has-ahead : (p x y : ℕ) → p < n → In y (recordOf b p) → conflict matrix (b .table) x y ≡ true → Before x y order → In x (recordOf b p)
+  -- 4. All 64 numbers of its books equal those of its share, posted in that order from zeros.
+  pub same-books : (p : ℕ) → p < n → figuresOf b p ≡ numbers (books blank (b .table) (share (recordOf b p) order))
+
+-- ---- demand 3, whole
+
+-- Of a list of calls from a board `start` of n sites. `done` is what was accepted of it; posting m is the one of the mth offer of `done`.
+pub record BooksAgree (n matrix : ℕ) (start : Board) (calls done : List Call) (b : Board) : Type 0 where
+  pub order : List ℕ
+  pub one-order : OneOrder n matrix b order
+  -- 5. Each posting offered is named by at most 2n² + n + 1 accepted receipts, orders and readings; and all together have that many per offer.
+  pub ceiling : (m : ℕ) → m < length (offers done) → naming m [] done ≤ ceilingOf n
+  pub total : actions done ≤ ceilingOf n * length (offers done)
+  -- 6. When none is left to do, the sites still up have the same postings, among them all that those sites offered.
+  pub same-postings : NothingLeft b → (p q x : ℕ) → p < n → q < n → broughtDown p done ≡ false → broughtDown q done ≡ false → In x (recordOf b p) → In x (recordOf b q)
+  pub all-offered : NothingLeft b → (p m : ℕ) → p < n → broughtDown p done ≡ false
+      → m < length (offers done) → broughtDown (getD (offers done) m noPosting .owner) done ≡ false → In m (recordOf b p)
+  -- 7. If no two offered postings conflict, the log was never used: no order was accepted, and the pool was empty on every board of the run.
+  pub never-used : ((x y : ℕ) → x < length (offers done) → y < length (offers done) → conflict matrix (b .table) x y ≡ false)
+      → (orders done ≡ []) × ((before after : List Call) → calls ≡ before ++ after → (m : ℕ) → has (running start before .pool) m ≡ false)
+
+-- of every list of calls from a board, with the board that it ends on
+abbrev pub BooksAgreeAfter : ℕ → ℕ → Board → List Call → Type 0
+BooksAgreeAfter n matrix start calls = BooksAgree n matrix start calls (acceptedCalls start calls) (running start calls)
+
+-- ---- beside it: uniform agreement
+
+-- When none is left to do, what is in the record of any site, up or down, is in the record of every site that is up.
+abbrev pub Uniform : ℕ → List Call → Board → Type 0
+Uniform n done b = NothingLeft b → (p q x : ℕ) → p < n → q < n → broughtDown q done ≡ false → In x (recordOf b p) → In x (recordOf b q)
