@@ -2,7 +2,7 @@
 -- Rests on Shows and invariants. Assumes nothing.
 use Prim.Native.Nat.{ℕ, zero, suc, _*_, _<_, _≤_}
 use mathlib.Core.Path.{_≡_, refl, sym, ap, _∙_}
-use mathlib.Core.Bool.{Bool, true, false, not, _&&_, and-false}
+use mathlib.Core.Bool.{Bool, true, false, cond, not, _&&_, and-false}
 use mathlib.Core.List.{List, [], _∷_}
 use native.Mathlib.Omega.{arith}
 use native.Mathlib.Decide.{decLt}
@@ -22,7 +22,7 @@ use Rattle.site.specs.declared.Setup.{Setup}
 use Rattle.site.specs.declared.Tally.{Tally}
 use Rattle.site.specs.Sites.{sites, blankSite, blankTally, noSet, noSite, noTally}
 use Rattle.flight.specs.ArrayLaws.{zero-at}
-use Rattle.flight.specs.Flights.{pairs, cells, isCell, cellAt, pairAt, emptyFlight, inFlight, messageIn, carriedBy, setIn, wordsFrom}
+use Rattle.flight.specs.Flights.{pairs, cells, isCell, cellAt, pairAt, emptyFlight, inFlight, messageIn, goodTo, carriedBy, setIn, wordsFrom}
 use Rattle.machine.specs.declared.Board.{Board}
 use Rattle.machine.specs.Boards.{freshBoard, emptyTable, siteAt, tallyAt}
 use Rattle.broadcast.specs.Machine.{World, State}
@@ -40,7 +40,18 @@ no-words k i (suc n) = rw (zero-at k i, no-words k (suc i) n)
 
 none-carried : (m r x : ℕ) → has (carriedBy emptyFlight m r) x ≡ false
 unfolding setIn
-none-carried m r x = ap (λ (ws : List ℕ). has (ofWords ws) x) (no-words (words * pairs) (words * pairAt m r) words) ∙ member-empty words x
+none-carried m r x = go (ltb (pairAt m r) pairs)
+  where
+    go : (v : Bool) → has (cond v (ofWords (wordsFrom (replicate (words * pairs) 0) (words * pairAt m r) words)) emptySet) x ≡ false
+    go true = ap (λ (ws : List ℕ). has (ofWords ws) x) (no-words (words * pairs) (words * pairAt m r) words) ∙ member-empty words x
+    go false = member-empty words x
+
+none-good : (m r p : ℕ) → hasBit (goodTo emptyFlight m r) p ≡ false
+none-good m r p = go (ltb (pairAt m r) pairs)
+  where
+    go : (v : Bool) → hasBit (cond v (getD (replicate pairs 0) (pairAt m r) 0) 0) p ≡ false
+    go true = rw (zero-at pairs (pairAt m r)) (has-bit-zero p)
+    go false = has-bit-zero p
 
 -- a blank set, or none
 no-set : (m x : ℕ) → has (getD (replicate capacity emptySet) m noSet) x ≡ false
@@ -88,7 +99,7 @@ module _ (w : World) (setup : Setup) (few : w .n ≤ sites) where
     flight = unfold blank in record {
       firsts-is = λ m r p la lb. sym (none-in-flight 0 m r p);
       seconds-is = λ m r p la lb. sym (none-in-flight 1 m r p);
-      good-is = λ m r p la lb. rw (zero-at pairs (pairAt m r)) (sym (has-bit-zero p));
+      good-is = λ m r p la lb. sym (none-good m r p);
       thirds-is = λ m r la. sym (none-in-flight 2 m r (w .owner m));
       carried-is = λ m r x la. sym (none-carried m r x);
       delivers-is = λ m r p la lb. sym (none-in-flight 3 m r p);

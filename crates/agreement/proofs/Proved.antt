@@ -79,7 +79,7 @@ conflict-same : (b c : Board) → Earlier b c → (x y : ℕ) → offered (b .ta
 unfolding conflict
 conflict-same b c e x y ox oy = rw (e .grows .same x ox, e .grows .same y oy, e .same-setup)
 
-run-append : (b : Board) (l r : List Call) → running b (l ++ r) ≡ running (running b l) r
+pub run-append : (b : Board) (l r : List Call) → running b (l ++ r) ≡ running (running b l) r
 unfolding running
 run-append b [] r = refl
 run-append b (c ∷ l) r = run-append (taking b c .board) l r
@@ -258,6 +258,10 @@ module _ (setup : Setup) (ok : setupOk setup ≡ true) (calls : List Call) where
 
       early : Alone setup ok before
       early x y ox oy = conflict-same (running (freshBoard setup) before) (running (freshBoard setup) calls) earlier x y ox oy ∙ alone x y (earlier .grows .more x ox) (earlier .grows .more y oy)
+
+  -- no more postings than there is room for
+  pub offers-few : length (offers (acceptedCalls (freshBoard setup) calls)) ≤ capacity
+  offers-few = rw (← had setup ok calls .count) (good setup ok calls .sound .count)
 
   -- The books agree after every list of calls from a fresh board.
   pub agree-fresh : BooksAgreeAfter (setup .n) (setup .matrix) (freshBoard setup) calls

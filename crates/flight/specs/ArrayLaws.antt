@@ -12,15 +12,15 @@ use lib.Dec.{eqb, ltb, lit<}
 use lib.ListN.{length, getD, set, replicate, length-set, length-replicate, List·getD-eq-default}
 use lib.Seq.{getD-set-same, getD-set-other, set-out, set-set, set-getD}
 use lib.Bits.{bitOr, or-lt, or-zero-r, and-zero-r}
-use borrow.Author.Tests.{ltb-true, eqb-true, eqb-false}
+use borrow.Author.Tests.{eq-eqb, ne-eqb, ltb-true, lt-ltb, eqb-true, eqb-false}
 use Rattle.sets.specs.Masks.{hasBit}
 use Rattle.sets.specs.MaskLaws.{has-bit-or, has-bit-pow, bits-ext}
 use Rattle.sets.specs.Truth.{test, never, and-left, and-right, and-implied, not-so}
 use Rattle.sets.specs.Sets.{capacity}
 use Rattle.site.specs.Sites.{sites}
 use Rattle.site.specs.Sends.{forms}
-use Rattle.flight.specs.Flights.{pairs, cells, isCell, pairAt, cellAt, receiversIn, messageIn, goodIn, less, sendingTo, takingFrom, saying, Bytes}
-use Rattle.flight.specs.CellLaws.{or-assoc-below, has-bit-less, sameCell, same-cell, pair-below, pair-same, cell-range, range-cell, cell-below, cell-out, cell-same, get-set}
+use Rattle.flight.specs.Flights.{pairs, cells, isCell, pairAt, cellAt, readAt, writeAt, receiversIn, messageIn, goodIn, less, sendingTo, takingFrom, saying, Bytes}
+use Rattle.flight.specs.CellLaws.{or-assoc-below, has-bit-less, sameCell, same-cell, pair-below, pair-same, cell-range, range-cell, cell-below, cell-out, cell-same}
 
 -- ---- shape
 
@@ -37,10 +37,23 @@ set-bytes {n} l j v s b = record { long = length-set l j v ∙ s .long; small = 
     each i h (yes e) = let k : j < length l = omega (arith, s .long) in rw (e, getD-set-same l j v 0 k) b
     each i h (no d) = rw (getD-set-other l j i v 0 d) (s .small i h)
 
+-- what holds of a list and of it with a place set holds of it with a place of n set
+pub write-keeps : (P : List ℕ → Type 0) (n : ℕ) (l : List ℕ) (i v : ℕ) → P l → P (set l i v) → P (writeAt n l i v)
+write-keeps P n l i v p q = elim (test (ltb i n)) [ inl t ↦ rw t q | inr f ↦ rw f p ]
+
+pub write-bytes : {n : ℕ} (l : List ℕ) (i v : ℕ) → Bytes n l → v < 2 ^ 8 → Bytes n (writeAt n l i v)
+write-bytes {n} l i v s h = write-keeps (Bytes n) n l i v s (set-bytes l i v s h)
+
+pub read-small : {n : ℕ} (l : List ℕ) (i : ℕ) → Bytes n l → readAt n l i < 2 ^ 8
+read-small {n} l i s = elim (test (ltb i n)) [ inl t ↦ rw t (byte-small l i s) | inr f ↦ rw f (lit< tt) ]
+
 pub zero-at : (n i : ℕ) → _≡_ {A = ℕ} (getD (replicate n 0) i 0) 0
 zero-at zero i = refl
 zero-at (suc n) zero = refl
 zero-at (suc n) (suc i) = zero-at n i
+
+pub read-zero : (n i : ℕ) → readAt n (replicate n 0) i ≡ 0
+read-zero n i = elim (test (ltb i n)) [ inl t ↦ rw t (zero-at n i) | inr f ↦ rw f ]
 
 pub zero-bytes : (n : ℕ) → Bytes n (replicate n 0)
 zero-bytes n = record { long = length-replicate {A = ℕ} n 0; small = λ i h. rw (zero-at n i) (lit< tt) }
@@ -49,25 +62,25 @@ module _ (masks : List ℕ) (s : Bytes cells masks) (form m from : ℕ) where
   pub sending-bytes : (receivers : ℕ) → receivers < 2 ^ 8 → Bytes cells (sendingTo masks form m from receivers)
   unfolding sendingTo
   sending-bytes receivers h =
-      set-bytes masks (cellAt form m from) _ s
+      write-bytes masks (cellAt form m from) _ s
       (or-lt 8 (receiversIn masks form m from) receivers (byte-small masks (cellAt form m from) s) h)
 
   pub taking-bytes : (to : ℕ) → Bytes cells (takingFrom masks form m from to)
   unfolding takingFrom
   taking-bytes to =
       let b : less (receiversIn masks form m from) (2 ^ to) < 2 ^ 8 = omega (arith, byte-small masks (cellAt form m from) s) in
-      set-bytes masks (cellAt form m from) _ s b
+      write-bytes masks (cellAt form m from) _ s b
 
 pub clearing-bytes : (good : List ℕ) → Bytes pairs good → (m from receivers : ℕ) → Bytes pairs (saying good m from receivers false)
 unfolding saying
 clearing-bytes good s m from receivers =
-    let b : less (goodIn good m from) receivers < 2 ^ 8 = omega (arith, byte-small good (pairAt m from) s) in
-    set-bytes good (pairAt m from) _ s b
+    let b : less (goodIn good m from) receivers < 2 ^ 8 = omega (arith, read-small good (pairAt m from) s) in
+    write-bytes good (pairAt m from) _ s b
 
 pub saying-bytes : (good : List ℕ) → Bytes pairs good → (m from receivers : ℕ) (so : Bool) → receivers < 2 ^ 8 → Bytes pairs (saying good m from receivers so)
 unfolding saying
 saying-bytes good s m from receivers true h =
-    set-bytes good (pairAt m from) _ s (or-lt 8 (goodIn good m from) receivers (byte-small good (pairAt m from) s) h)
+    write-bytes good (pairAt m from) _ s (or-lt 8 (goodIn good m from) receivers (read-small good (pairAt m from) s) h)
 saying-bytes good s m from receivers false h = clearing-bytes good s m from receivers
 
 -- ---- messages
@@ -105,7 +118,9 @@ module _ (masks : List ℕ) (long : length masks ≡ cells) where
       ≡ (messageIn masks f x a b || sameCell f x a form m from && (ltb b sites && hasBit receivers b))
   unfolding sendingTo
   message-sent form m from receivers h hm hf f x a b =
-      message-set form m from (bitOr (receiversIn masks form m from) receivers) h hm hf f x a b
+      ap (λ (t : Bool). messageIn (cond t (set masks (cellAt form m from) (bitOr (receiversIn masks form m from) receivers)) masks) f x a b)
+      (lt-ltb (cellAt form m from) cells (cell-below form m from h hm hf))
+      ∙ message-set form m from (bitOr (receiversIn masks form m from) receivers) h hm hf f x a b
       ∙ elim (test (sameCell f x a form m from)) [
         | inl t ↦
             let (e, g, i) = same-cell f x a form m from t in
@@ -124,10 +139,11 @@ module _ (masks : List ℕ) (long : length masks ≡ cells) where
   message-taken form m from to f x a b = elim (test (isCell form m from)) [
     | inl c ↦
         let (h, hm, hf) = cell-range form m from c in
-        message-set form m from (less (receiversIn masks form m from) (2 ^ to)) h hm hf f x a b ∙ within c
+        ap (λ (t : Bool). messageIn (cond t (set masks (cellAt form m from) (less (receiversIn masks form m from) (2 ^ to))) masks) f x a b)
+        (lt-ltb (cellAt form m from) cells (cell-below form m from h hm hf))
+        ∙ message-set form m from (less (receiversIn masks form m from) (2 ^ to)) h hm hf f x a b ∙ within c
     | inr c ↦
-        let l : length masks ≤ cellAt form m from = omega (arith, cell-out form m from c) in
-        rw (set-out masks (cellAt form m from) (less (receiversIn masks form m from) (2 ^ to)) l) (sym (outside c))
+        rw (cell-out form m from c) (sym (outside c))
   ]
     where
       within : isCell form m from ≡ true → cond (sameCell f x a form m from) (ltb b sites && hasBit (less (receiversIn masks form m from) (2 ^ to)) b) (messageIn masks f x a b)
@@ -152,6 +168,12 @@ module _ (masks : List ℕ) (long : length masks ≡ cells) where
 
 -- ---- GOODs
 
+read-write : {n : ℕ} (l : List ℕ) → length l ≡ n → (i j v : ℕ) → i < n → readAt n (writeAt n l i v) j ≡ cond (eqb j i) v (readAt n l j)
+read-write {n} l long i j v h = rw (lt-ltb i n h) (elim (ℕ-discrete j i) [
+  | yes e ↦ rw (e, lt-ltb i n h, eq-eqb i i refl) (getD-set-same l i v 0 (omega arith))
+  | no d ↦ rw (ne-eqb j i d, getD-set-other l i j v 0 d)
+])
+
 module _ (good : List ℕ) (long : length good ≡ pairs) where
   -- receivers told: the new verdict is theirs, the others keep theirs
   pub good-said :
@@ -161,8 +183,7 @@ module _ (good : List ℕ) (long : length good ≡ pairs) where
   unfolding saying
   good-said m from receivers so hm hf x a b =
       let new = cond so (bitOr (goodIn good m from) receivers) (less (goodIn good m from) receivers) in
-      let l : pairAt m from < length good = omega (arith, pair-below m from hm hf) in
-      ap (λ (w : ℕ). hasBit w b) (get-set good (pairAt m from) (pairAt x a) new l)
+      ap (λ (w : ℕ). hasBit w b) (read-write good long (pairAt m from) (pairAt x a) new (pair-below m from hm hf))
       ∙ ap (λ (t : Bool). hasBit (cond t new (goodIn good x a)) b) (pair-same x a m from hm hf)
       ∙ elim (test (eqb x m && eqb a from)) [
         | inl t ↦
@@ -199,14 +220,26 @@ set-twice l i v f = elim (decLt i (length l)) [
       rw (set-out l i v b) (set-out l i (f (getD l i 0)) b ∙ sym (set-out l i (f v) b))
 ]
 
+write-same : (n : ℕ) (l : List ℕ) (i : ℕ) → writeAt n l i (getD l i 0) ≡ l
+write-same n l i = elim (test (ltb i n)) [ inl t ↦ rw t (set-getD l i 0) | inr f ↦ rw f ]
+
+write-read : (n : ℕ) (l : List ℕ) (i : ℕ) → writeAt n l i (readAt n l i) ≡ l
+write-read n l i = elim (test (ltb i n)) [ inl t ↦ rw t (set-getD l i 0) | inr f ↦ rw f ]
+
+write-twice : (n : ℕ) (l : List ℕ) (i v : ℕ) (f : ℕ → ℕ) → writeAt n (writeAt n l i v) i (f (getD (writeAt n l i v) i 0)) ≡ writeAt n l i (f v)
+write-twice n l i v f = elim (test (ltb i n)) [ inl t ↦ rw t (set-twice l i v f) | inr e ↦ rw e ]
+
+write-read-twice : (n : ℕ) (l : List ℕ) (i v : ℕ) (f : ℕ → ℕ) → writeAt n (writeAt n l i v) i (f (readAt n (writeAt n l i v) i)) ≡ writeAt n l i (f v)
+write-read-twice n l i v f = elim (test (ltb i n)) [ inl t ↦ rw t (set-twice l i v f) | inr e ↦ rw e ]
+
 pub sending-none : (masks : List ℕ) (form m from : ℕ) → sendingTo masks form m from 0 ≡ masks
 unfolding sendingTo
-sending-none masks form m from = rw (or-zero-r (receiversIn masks form m from)) (set-getD masks (cellAt form m from) 0)
+sending-none masks form m from = rw (or-zero-r (receiversIn masks form m from)) (write-same cells masks (cellAt form m from))
 
 pub saying-none : (good : List ℕ) (m from : ℕ) (so : Bool) → saying good m from 0 so ≡ good
 unfolding saying
-saying-none good m from true = rw (or-zero-r (goodIn good m from)) (set-getD good (pairAt m from) 0)
-saying-none good m from false = rw (and-zero-r (goodIn good m from), sub-zero (goodIn good m from)) (set-getD good (pairAt m from) 0)
+saying-none good m from true = rw (or-zero-r (goodIn good m from)) (write-read pairs good (pairAt m from))
+saying-none good m from false = rw (and-zero-r (goodIn good m from), sub-zero (goodIn good m from)) (write-read pairs good (pairAt m from))
 
 module _ (masks : List ℕ) (s : Bytes cells masks) (form m from : ℕ) where
   pub sending-twice :
@@ -214,8 +247,8 @@ module _ (masks : List ℕ) (s : Bytes cells masks) (form m from : ℕ) where
   unfolding sendingTo
   sending-twice r q hr hq =
       let i = cellAt form m from in
-      set-twice masks i (bitOr (getD masks i 0) r) (λ w. bitOr w q)
-      ∙ ap (set masks i) (or-assoc-below 8 (getD masks i 0) r q (byte-small masks i s) hr hq)
+      write-twice cells masks i (bitOr (getD masks i 0) r) (λ w. bitOr w q)
+      ∙ ap (writeAt cells masks i) (or-assoc-below 8 (getD masks i 0) r q (byte-small masks i s) hr hq)
 
 less-less : (n u r q : ℕ) → u < 2 ^ n → less (less u r) q ≡ less u (bitOr r q)
 less-less n u r q h =
@@ -233,9 +266,9 @@ module _ (good : List ℕ) (s : Bytes pairs good) (m from : ℕ) where
   unfolding saying
   saying-twice true r q hr hq =
       let i = pairAt m from in
-      set-twice good i (bitOr (getD good i 0) r) (λ w. bitOr w q)
-      ∙ ap (set good i) (or-assoc-below 8 (getD good i 0) r q (byte-small good i s) hr hq)
+      write-read-twice pairs good i (bitOr (readAt pairs good i) r) (λ w. bitOr w q)
+      ∙ ap (writeAt pairs good i) (or-assoc-below 8 (readAt pairs good i) r q (read-small good i s) hr hq)
   saying-twice false r q hr hq =
       let i = pairAt m from in
-      set-twice good i (less (getD good i 0) r) (λ w. less w q)
-      ∙ ap (set good i) (less-less 8 (getD good i 0) r q (byte-small good i s))
+      write-read-twice pairs good i (less (readAt pairs good i) r) (λ w. less w q)
+      ∙ ap (writeAt pairs good i) (less-less 8 (readAt pairs good i) r q (read-small good i s))

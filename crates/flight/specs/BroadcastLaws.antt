@@ -1,24 +1,24 @@
 -- The sends to all, and to all but one, are one mask of receivers: the code of a step sends masks. Sends of the same message one after the other
 -- are the joined mask; the first j sends are a mask too. Rests on Flights, FlightLaws and SendLaws. Assumes nothing.
 use Prim.Native.Nat.{ℕ, zero, suc, _-_, _^_, _<_, _≤_, min}
-use mathlib.Core.Path.{_≡_, refl, sym, ap, ap₂, _∙_}
+use mathlib.Core.Path.{_≡_, refl, sym, ap, _∙_}
 use mathlib.Core.Logic.{inl, inr, _≢_}
 use mathlib.Core.Bool.{Bool, true, false, cond, not, _&&_, _||_, or-false, and-false}
-use mathlib.Core.List.{List, [], _∷_, _++_, append-nil}
+use mathlib.Core.List.{List, [], _∷_, append-nil}
 use native.Mathlib.Omega.{arith}
 use native.Mathlib.Decide.{ℕ-discrete}
 use lib.Dec.{eqb, ltb}
 use lib.ListN.{take}
-use lib.Bits.{bitOr, bitAnd, or-lt, or-zero-l, or-zero-r, or-add-and, and-le-l}
-use lib.Pow.{pow-lt, pow-pos, pow-mono}
-use borrow.Author.Tests.{eq-eqb, ne-eqb, eqb-true, eqb-false}
+use lib.Bits.{bitOr, or-lt, or-zero-l, or-zero-r, or-add-and, and-le-l}
+use lib.Pow.{pow-lt, pow-pos}
+use borrow.Author.Tests.{eq-eqb, ne-eqb, eqb-true}
 use Rattle.sets.specs.declared.Set.{Set}
 use Rattle.sets.specs.Masks.{hasBit}
-use Rattle.sets.specs.MaskLaws.{has-bit-pow, has-bit-or, has-bit-set, bits-ext}
+use Rattle.sets.specs.MaskLaws.{has-bit-pow, has-bit-set, bits-ext}
 use Rattle.sets.specs.Truth.{test}
-use Rattle.sets.specs.Sets.{words, capacity, emptySet, Shape as SetShape}
+use Rattle.sets.specs.Sets.{capacity, emptySet}
 use Rattle.site.specs.Sites.{sites}
-use Rattle.site.specs.Sends.{FIRST, SECOND, THIRD, DELIVER, forms, Send, first, second, third, deliver, toAll, toOthers}
+use Rattle.site.specs.Sends.{FIRST, SECOND, THIRD, DELIVER, Send, first, second, third, deliver, toAll, toOthers}
 use Rattle.flight.specs.declared.Flight.{Flight}
 use Rattle.flight.specs.Flights.{less, flightOf, goodTo, sendingTo, saying, carrying, sending, sendingAll, sendingMask, Shape}
 use Rattle.flight.specs.CellLaws.{has-bit-less, has-bit-ones, ones-more}

@@ -3,21 +3,22 @@
 use Prim.Native.Nat.{ℕ, zero, suc, _+_, _*_, _^_, _<_, _≤_}
 use mathlib.Core.Path.{_≡_, refl, sym, ap, ap₂, _∙_}
 use mathlib.Core.Logic.{_⊎_, inl, inr, _≢_}
-use mathlib.Core.Bool.{cond, _&&_}
+use mathlib.Core.Bool.{true, cond, _&&_}
 use mathlib.Core.List.{List, [], _∷_}
 use native.Mathlib.Omega.{arith}
 use native.Mathlib.Decide.{decLt}
-use lib.Dec.{eqb}
-use lib.ListN.{length, getD, set, replicate, length-set, List·getD-eq-default}
-use lib.Seq.{sets, length-sets, getD-set-same, getD-set-other, set-out, set-set, set-comm}
-use borrow.Author.Tests.{eqb-true, eqb-false}
+use lib.Dec.{eqb, ltb}
+use lib.ListN.{length, getD, set, replicate, length-set}
+use lib.Seq.{sets, getD-set-same, getD-set-other, set-set, set-comm}
+use borrow.Author.Tests.{lt-ltb, le-ltb, eqb-true, eqb-false}
 use Rattle.sets.specs.declared.Set.{Set}
 use Rattle.sets.specs.Truth.{test, and-left, and-right}
 use Rattle.sets.specs.Words.{Words}
-use Rattle.sets.specs.WordLaws.{set-shape, word-small}
+use Rattle.sets.specs.WordLaws.{empty-shape, set-shape, word-small}
 use Rattle.sets.specs.Sets.{words, capacity, ofWords, emptySet, Shape}
 use Rattle.site.specs.Sites.{sites}
 use Rattle.flight.specs.Flights.{pairs, pairAt, wordsFrom, setIn, carrying}
+use Rattle.flight.specs.ArrayLaws.{zero-at}
 use Rattle.flight.specs.CellLaws.{pair-below, pair-same}
 
 -- ---- shape
@@ -29,8 +30,10 @@ sets-words (v ∷ vs) l i s h = sets-words vs (set l i v) (suc i) (set-shape l i
 pub carrying-words :
     (carried : List ℕ) → Words (words * pairs) carried → (m from : ℕ) (load : Set) → Shape load → Words (words * pairs) (carrying carried m from load)
 unfolding carrying
-carrying-words carried s m from load t =
-    sets-words (load .words) carried (words * pairAt m from) s (λ j h. t .small j (omega (arith, t .long)))
+carrying-words carried s m from load t = elim (test (ltb (pairAt m from) pairs)) [
+  | inl b ↦ rw b (sets-words (load .words) carried (words * pairAt m from) s (λ j h. t .small j (omega (arith, t .long))))
+  | inr b ↦ rw b s
+]
 
 -- ---- words stored and read
 
@@ -89,13 +92,18 @@ module _ (carried : List ℕ) (long : length carried ≡ words * pairs) where
     | inl t ↦
         let e : x ≡ m = eqb-true x m (and-left (eqb x m) (eqb a from) t) in
         let g : a ≡ from = eqb-true a from (and-right (eqb x m) (eqb a from) t) in
-        rw (t, e, g) (ap ofWords stored)
+        rw (t, e, g, here) (ap ofWords stored)
     | inr n ↦
         let d : pairAt x a ≢ pairAt m from = eqb-false (pairAt x a) (pairAt m from) (pair-same x a m from hm hf ∙ n) in
-        rw n (ap ofWords (words-from-ext (sets carried at ws) carried (words * pairAt x a) words
+        rw (n, here)
+        (ap (λ (l : List ℕ). cond (ltb (pairAt x a) pairs) (ofWords l) emptySet)
+        (words-from-ext (sets carried at ws) carried (words * pairAt x a) words
         (λ k h i. get-sets-other ws carried at k (apart k h i d (decLt k at)))))
   ]
     where
+      here : ltb (pairAt m from) pairs ≡ true
+      here = lt-ltb (pairAt m from) pairs (pair-below m from hm hf)
+
       at : ℕ
       at = words * pairAt m from
 
@@ -113,31 +121,38 @@ module _ (carried : List ℕ) (long : length carried ≡ words * pairs) where
 
 pub set-shape-in : (carried : List ℕ) → Words (words * pairs) carried → (m from : ℕ) → Shape (setIn carried m from)
 unfolding setIn
-set-shape-in carried s m from =
-    let at = words * pairAt m from in
-    record {
-      long = length-words-from carried at words;
-      small = λ j h. rw (word-from carried at words j h) (word-small carried (at + j) s);
-    }
-
--- ---- nothing there
+set-shape-in carried s m from = elim (test (ltb (pairAt m from) pairs)) [
+  | inl t ↦
+      rw t (record {
+        long = length-words-from carried at words;
+        small = λ j h. rw (word-from carried at words j h) (word-small carried (at + j) s);
+      })
+  | inr f ↦ rw f (empty-shape words)
+]
+  where
+    at : ℕ
+    at = words * pairAt m from
 
 -- no set stands past the last pair, and none is stored there
-pub set-past : (carried : List ℕ) (m from : ℕ) → length carried ≤ words * pairAt m from → setIn carried m from ≡ emptySet
-unfolding setIn wordsFrom
-set-past carried m from h = ap ofWords (zeros (words * pairAt m from) words h)
-  where
-    zeros : (i n : ℕ) → length carried ≤ i → wordsFrom carried i n ≡ replicate n 0
-    zeros i zero l = refl
-    zeros i (suc n) l = ap₂ (λ (w : ℕ) (ws : List ℕ). w ∷ ws) (List·getD-eq-default carried 0 l) (zeros (suc i) n (omega arith))
+pub set-past : (carried : List ℕ) (m from : ℕ) → pairs ≤ pairAt m from → setIn carried m from ≡ emptySet
+unfolding setIn
+set-past carried m from h = rw (le-ltb (pairAt m from) pairs h)
 
-pub carrying-past : (carried : List ℕ) (m from : ℕ) (load : Set) → length carried ≤ words * pairAt m from → carrying carried m from load ≡ carried
+pub carrying-past : (carried : List ℕ) (m from : ℕ) (load : Set) → pairs ≤ pairAt m from → carrying carried m from load ≡ carried
 unfolding carrying
-carrying-past carried m from load h = past (load .words) (words * pairAt m from) h
+carrying-past carried m from load h = rw (le-ltb (pairAt m from) pairs h)
+
+-- where all words are 0
+pub zero-set : (n m from : ℕ) → setIn (replicate n 0) m from ≡ emptySet
+unfolding setIn wordsFrom
+zero-set n m from = elim (test (ltb (pairAt m from) pairs)) [
+  | inl t ↦ rw t (ap ofWords (zeros (words * pairAt m from) words))
+  | inr f ↦ rw f
+]
   where
-    past : (vs : List ℕ) (i : ℕ) → length carried ≤ i → sets carried i vs ≡ carried
-    past [] i l = refl
-    past (v ∷ vs) i l = ap (λ (r : List ℕ). sets r (suc i) vs) (set-out carried i v l) ∙ past vs (suc i) (omega arith)
+    zeros : (i k : ℕ) → wordsFrom (replicate n 0) i k ≡ replicate k 0
+    zeros i zero = refl
+    zeros i (suc k) = ap₂ (λ (w : ℕ) (ws : List ℕ). w ∷ ws) (zero-at n i) (zeros (suc i) k)
 
 -- ---- the same set twice
 
@@ -160,4 +175,7 @@ sets-twice (v ∷ vs) l i =
 
 pub carrying-twice : (carried : List ℕ) (m from : ℕ) (load : Set) → carrying (carrying carried m from load) m from load ≡ carrying carried m from load
 unfolding carrying
-carrying-twice carried m from load = sets-twice (load .words) carried (words * pairAt m from)
+carrying-twice carried m from load = elim (test (ltb (pairAt m from) pairs)) [
+  | inl t ↦ rw t (sets-twice (load .words) carried (words * pairAt m from))
+  | inr f ↦ rw f
+]

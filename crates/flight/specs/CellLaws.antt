@@ -1,23 +1,19 @@
 -- Laws of masks of receivers and of places: the bits of a mask less another and of the first n sites; where a pair or a cell stands, and that
 -- no two share a place. Rests on Flights and on sets' laws of masks. Assumes nothing.
-use Prim.Native.Nat.{ℕ, zero, suc, _+_, _*_, _-_, _/_, _%_, _^_, _<_, _≤_, min}
+use Prim.Native.Nat.{ℕ, zero, suc, _+_, _*_, _-_, _/_, _^_, _<_, _≤_, min}
 use mathlib.Core.Path.{_≡_, refl, sym, ap, _∙_}
 use mathlib.Core.Logic.{_⊎_, inl, inr}
-use mathlib.Core.Bool.{Bool, true, false, cond, not, _&&_, _||_, or-assoc}
-use mathlib.Core.List.{List}
+use mathlib.Core.Bool.{Bool, true, false, not, _&&_, or-assoc, and-true}
 use native.Mathlib.Omega.{arith}
 use native.Mathlib.Nat.{one-mul}
-use native.Mathlib.Decide.{ℕ-discrete}
-use lib.Dec.{eqb, ltb, leb·zero, leb·suc-suc}
-use lib.ListN.{length, getD, set}
-use lib.Seq.{getD-set-same, getD-set-other}
-use lib.Bits.{bitOr, bitAnd, and-step, and-le-l, or-lt, or-shifted-r}
+use lib.Dec.{eqb, ltb, leb·suc-suc}
+use lib.Bits.{bitOr, and-step, and-le-l, or-lt, or-shifted-r}
 use lib.Pow.{pow-pos, ones-lt}
 use borrow.Author.Tests.{eq-eqb, ne-eqb, eqb-true, lt-ltb, le-ltb, ltb-true}
 use Rattle.sets.specs.Below.{one}
 use Rattle.sets.specs.Masks.{hasBit}
-use Rattle.sets.specs.MaskLaws.{has-bit-low, has-bit-half, has-bit-zero, has-bit-or, bits-ext}
-use Rattle.sets.specs.Truth.{test, never, both-ways, and-left, and-right, and-intro, not-so}
+use Rattle.sets.specs.MaskLaws.{has-bit-low, has-bit-half, has-bit-zero, has-bit-pow, has-bit-or, bits-ext}
+use Rattle.sets.specs.Truth.{test, both-ways, and-left, and-right, and-intro}
 use Rattle.sets.specs.Sets.{capacity}
 use Rattle.site.specs.Sites.{sites}
 use Rattle.site.specs.Sends.{forms}
@@ -42,6 +38,12 @@ has-bit-less w r (suc k) =
     let e : less w r / 2 ≡ less (w / 2) (r / 2) = omega (arith, and-step w r, and-le-l (w / 2) (r / 2)) in
     has-bit-half (less w r) k ∙ ap (λ (x : ℕ). hasBit x k) e ∙ has-bit-less (w / 2) (r / 2) k
     ∙ sym (rw (has-bit-half w k, has-bit-half r k))
+
+-- a site from n on is in no mask of n sites
+pub less-above : (n w site : ℕ) → w < 2 ^ n → n ≤ site → less w (2 ^ site) ≡ w
+less-above n w site small above =
+    bits-ext n (less w (2 ^ site)) w (omega arith) small
+    (λ k h. has-bit-less w (2 ^ site) k ∙ rw (has-bit-pow site k, ne-eqb k site (omega arith)) (and-true (hasBit w k)))
 
 -- the mask of the sites below n
 pub has-bit-ones : (n k : ℕ) → hasBit (2 ^ n - 1) k ≡ ltb k n
@@ -72,9 +74,6 @@ sameCell f x a form m from = eqb f form && (eqb x m && eqb a from)
 pub pair-range : (m from : ℕ) → isPair m from ≡ true → (m < capacity) × (from < sites)
 pair-range m from t =
     (ltb-true m capacity (and-left (ltb m capacity) (ltb from sites) t), ltb-true from sites (and-right (ltb m capacity) (ltb from sites) t))
-
-pub range-pair : (m from : ℕ) → m < capacity → from < sites → isPair m from ≡ true
-range-pair m from hm hf = rw (lt-ltb m capacity hm, lt-ltb from sites hf)
 
 pub cell-range : (form m from : ℕ) → isCell form m from ≡ true → (form < forms) × (m < capacity) × (from < sites)
 cell-range form m from t =
@@ -153,10 +152,3 @@ cell-same f x a form m from h hm hf = both-ways (eqb (cellAt f x a) (cellAt form
     back t =
         let (e, g, i) = same-cell f x a form m from t in
         rw (e, g, i) (eq-eqb (cellAt form m from) (cellAt form m from) refl)
-
--- what stands at a place once one place was set
-pub get-set : (l : List ℕ) (i j v : ℕ) → i < length l → getD (set l i v) j 0 ≡ cond (eqb j i) v (getD l j 0)
-get-set l i j v h = elim (ℕ-discrete j i) [
-  | yes e ↦ rw (e, eq-eqb i i refl) (getD-set-same l i v 0 h)
-  | no d ↦ rw (ne-eqb j i d) (getD-set-other l i j v 0 d)
-]

@@ -1,28 +1,33 @@
 -- Laws of a flight: what is in flight, which GOODs and which sets, once a mask of receivers or a single send was sent, once a message was taken
 -- out, and where nothing is; each keeps the shape. Rests on Flights, ArrayLaws and CarriedLaws. Assumes nothing.
 use Prim.Native.Nat.{ℕ, _*_, _^_, _<_}
-use mathlib.Core.Path.{_≡_, refl, sym, ap, _∙_}
+use mathlib.Core.Path.{_≡_, refl, ap, _∙_}
 use mathlib.Core.Logic.{inl, inr}
-use mathlib.Core.Bool.{Bool, true, false, cond, not, _&&_, _||_, or-false, and-true, and-false, and-assoc, and-comm}
-use mathlib.Core.List.{List, [], _∷_}
+use mathlib.Core.Bool.{Bool, true, false, cond, not, _&&_, _||_, and-false, and-comm}
 use native.Mathlib.Omega.{arith}
 use lib.Dec.{eqb, ltb, lit<}
 use lib.Pow.{pow-lt, pow-pos}
-use borrow.Author.Tests.{eq-eqb, ne-eqb, eqb-true, lt-ltb}
+use borrow.Author.Tests.{ne-eqb, eqb-true, lt-ltb}
 use Rattle.sets.specs.declared.Set.{Set}
 use Rattle.sets.specs.Masks.{hasBit}
 use Rattle.sets.specs.MaskLaws.{has-bit-zero, has-bit-pow}
-use Rattle.sets.specs.Truth.{test, and-left, and-right, and-implied}
+use Rattle.sets.specs.Truth.{test, and-implied}
 use Rattle.sets.specs.Words.{Words}
 use Rattle.sets.specs.WordLaws.{empty-shape}
 use Rattle.sets.specs.Sets.{words, capacity, emptySet, Shape as SetShape}
 use Rattle.site.specs.Sites.{sites}
 use Rattle.site.specs.Sends.{FIRST, SECOND, THIRD, DELIVER, forms, Send, first, second, third, deliver, entry}
 use Rattle.flight.specs.declared.Flight.{Flight}
-use Rattle.flight.specs.Flights.{pairs, cells, isCell, pairAt, cellAt, flightOf, inFlight, goodTo, carriedBy, messageIn, saying, carrying, goodSent, setSent, sending, sendingAll, sendingMask, takingOut, emptyFlight, Bytes, Shape}
+use Rattle.flight.specs.Flights.{pairs, cells, isCell, pairAt, cellAt, inFlight, goodTo, carriedBy, messageIn, saying, carrying, sending, sendingMask, takingOut, emptyFlight, Bytes, Shape}
 use Rattle.flight.specs.CellLaws.{sameCell}
-use Rattle.flight.specs.ArrayLaws.{zero-at, zero-bytes, sending-bytes, taking-bytes, clearing-bytes, saying-bytes, message-sent, message-taken, good-said, sending-none, saying-none, sending-twice, saying-twice}
-use Rattle.flight.specs.CarriedLaws.{carrying-words, set-carried, carrying-twice}
+use Rattle.flight.specs.ArrayLaws.{zero-at, read-zero, zero-bytes, sending-bytes, taking-bytes, clearing-bytes, saying-bytes, message-range, message-sent, message-taken, good-said, sending-none}
+use Rattle.flight.specs.CarriedLaws.{carrying-words, set-carried, zero-set}
+
+-- a message in flight is in range
+pub in-flight-range :
+    (flight : Flight) (f x a b : ℕ) → inFlight flight f x a b ≡ true → (f < forms) × (x < capacity) × (a < sites) × (b < sites)
+unfolding inFlight
+in-flight-range flight f x a b t = message-range (flight .masks) f x a b t
 
 -- ---- a mask of receivers
 
@@ -286,4 +291,7 @@ empty-in-flight f x a b =
     rw (zero-at cells (cellAt f x a), has-bit-zero b, and-false (ltb b sites)) (and-false (isCell f x a))
 
 pub empty-good : (x a b : ℕ) → hasBit (goodTo emptyFlight x a) b ≡ false
-empty-good x a b = rw (zero-at pairs (pairAt x a)) (has-bit-zero b)
+empty-good x a b = rw (read-zero pairs (pairAt x a)) (has-bit-zero b)
+
+pub empty-carried : (x a : ℕ) → carriedBy emptyFlight x a ≡ emptySet
+empty-carried x a = zero-set (words * pairs) x a

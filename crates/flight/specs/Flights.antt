@@ -5,7 +5,7 @@ use mathlib.Core.Path.{_≡_}
 use mathlib.Core.Bool.{Bool, true, false, cond, not, _&&_}
 use mathlib.Core.List.{List, [], _∷_}
 use lib.Dec.{eqb, ltb}
-use lib.ListN.{length, getD, set, replicate}
+use lib.ListN.{length, getD, set, take, replicate}
 use lib.Seq.{sets}
 use lib.Bits.{bitOr, bitAnd}
 use Rattle.sets.specs.declared.Set.{Set}
@@ -41,6 +41,13 @@ pairAt m from = cond (isPair m from) (m * sites + from) pairs
 unfoldable pub cellAt : ℕ → ℕ → ℕ → ℕ
 cellAt form m from = cond (isCell form m from) (form * pairs + (m * sites + from)) cells
 
+-- what stands at place i of n, 0 past them; the list with v there, as it is past them
+abbrev pub readAt : ℕ → List ℕ → ℕ → ℕ
+readAt n l i = cond (ltb i n) (getD l i 0) 0
+
+abbrev pub writeAt : ℕ → List ℕ → ℕ → ℕ → List ℕ
+writeAt n l i v = cond (ltb i n) (set l i v) l
+
 -- ---- what the arrays hold
 
 -- the receivers of a form, posting and sender
@@ -53,7 +60,7 @@ messageIn masks form m from to = isCell form m from && (ltb to sites && hasBit (
 
 -- of a SECOND, those to whom it says GOOD
 abbrev pub goodIn : List ℕ → ℕ → ℕ → ℕ
-goodIn good m from = getD good (pairAt m from) 0
+goodIn good m from = readAt pairs good (pairAt m from)
 
 -- n words of a list, from place i on
 unfoldable pub wordsFrom : List ℕ → ℕ → ℕ → List ℕ
@@ -62,7 +69,7 @@ wordsFrom l i (suc n) = getD l i 0 ∷ wordsFrom l (suc i) n
 
 -- the set that a THIRD carries
 unfoldable pub setIn : List ℕ → ℕ → ℕ → Set
-setIn carried m from = ofWords (wordsFrom carried (words * pairAt m from) words)
+setIn carried m from = cond (ltb (pairAt m from) pairs) (ofWords (wordsFrom carried (words * pairAt m from) words)) emptySet
 
 -- the same of a flight
 unfoldable pub inFlight : Flight → ℕ → ℕ → ℕ → ℕ → Bool
@@ -82,20 +89,20 @@ less mask other = mask - bitAnd mask other
 
 -- a form, posting and sender has receivers more
 unfoldable pub sendingTo : List ℕ → ℕ → ℕ → ℕ → ℕ → List ℕ
-sendingTo masks form m from receivers = set masks (cellAt form m from) (bitOr (receiversIn masks form m from) receivers)
+sendingTo masks form m from receivers = writeAt cells masks (cellAt form m from) (bitOr (receiversIn masks form m from) receivers)
 
 -- it has a receiver less
 unfoldable pub takingFrom : List ℕ → ℕ → ℕ → ℕ → ℕ → List ℕ
-takingFrom masks form m from to = set masks (cellAt form m from) (less (receiversIn masks form m from) (2 ^ to))
+takingFrom masks form m from to = writeAt cells masks (cellAt form m from) (less (receiversIn masks form m from) (2 ^ to))
 
 -- a SECOND says GOOD to receivers, or no longer does
 unfoldable pub saying : List ℕ → ℕ → ℕ → ℕ → Bool → List ℕ
 saying good m from receivers so =
-    set good (pairAt m from) (cond so (bitOr (goodIn good m from) receivers) (less (goodIn good m from) receivers))
+    writeAt pairs good (pairAt m from) (cond so (bitOr (goodIn good m from) receivers) (less (goodIn good m from) receivers))
 
 -- a THIRD carries a set
 unfoldable pub carrying : List ℕ → ℕ → ℕ → Set → List ℕ
-carrying carried m from load = sets carried (words * pairAt m from) (load .words)
+carrying carried m from load = cond (ltb (pairAt m from) pairs) (sets carried (words * pairAt m from) (load .words)) carried
 
 abbrev pub flightOf : List ℕ → List ℕ → List ℕ → Flight
 flightOf masks good carried = record { masks = masks; good = good; carried = carried }
@@ -150,24 +157,29 @@ takingOut flight form m from to =
 
 -- ---- the lowest message
 
--- the lowest site of a mask of n sites
-unfoldable pub lowestBit : ℕ → ℕ → ℕ
-lowestBit zero mask = 0
-lowestBit (suc n) mask = cond (eqb (mask % 2) 1) 0 (suc (lowestBit n (mask / 2)))
-
 -- cell k, as form, posting, sender, and a receiver
 abbrev pub messageAt : ℕ → ℕ → Found
 messageAt k to = Message (k / pairs) (k / sites % capacity) (k % sites) to
+
+-- the message of cell k to the lowest site of a mask, of n sites from `to` on; else what comes after
+unfoldable pub lowestTo : ℕ → ℕ → ℕ → ℕ → Found → Found
+lowestTo k mask to zero after = after
+lowestTo k mask to (suc n) after =
+    let later = lowestTo k mask (suc to) n after in
+    cond (hasBit mask to) (messageAt k to) later
 
 -- the lowest message by form, posting, from, to at a site of the mask, from cell k on
 unfoldable pub lowestFrom : ℕ → List ℕ → ℕ → Found
 lowestFrom k [] up = Nothing
 lowestFrom k (mask ∷ l) up =
-    let rest = lowestFrom (suc k) l up in
-    cond (eqb (bitAnd mask up) 0) rest (messageAt k (lowestBit sites (bitAnd mask up)))
+    let after = lowestFrom (suc k) l up in
+    cond (eqb (bitAnd mask up) 0) after (lowestTo k (bitAnd mask up) 0 sites after)
+
+abbrev pub lowestIn : List ℕ → ℕ → Found
+lowestIn masks up = lowestFrom 0 (take cells masks) up
 
 abbrev pub lowest : Flight → ℕ → Found
-lowest flight up = lowestFrom 0 (flight .masks) up
+lowest flight up = lowestIn (flight .masks) up
 
 -- Nothing in flight is for a site of the mask.
 unfoldable pub nothingComes : List ℕ → ℕ → Bool
@@ -181,10 +193,10 @@ abbrev pub emptyFlight : Flight
 emptyFlight = flightOf (replicate cells 0) (replicate pairs 0) (replicate (words * pairs) 0)
 
 abbrev pub withReceivers : Flight → ℕ → ℕ → ℕ → ℕ → Flight
-withReceivers flight form m from receivers = flightOf (set (flight .masks) (cellAt form m from) receivers) (flight .good) (flight .carried)
+withReceivers flight form m from receivers = flightOf (writeAt cells (flight .masks) (cellAt form m from) receivers) (flight .good) (flight .carried)
 
 abbrev pub withGood : Flight → ℕ → ℕ → ℕ → Flight
-withGood flight m from receivers = flightOf (flight .masks) (set (flight .good) (pairAt m from) receivers) (flight .carried)
+withGood flight m from receivers = flightOf (flight .masks) (writeAt pairs (flight .good) (pairAt m from) receivers) (flight .carried)
 
 abbrev pub withCarried : Flight → ℕ → ℕ → Set → Flight
 withCarried flight m from load = flightOf (flight .masks) (flight .good) (carrying (flight .carried) m from load)

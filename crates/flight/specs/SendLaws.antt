@@ -1,10 +1,10 @@
 -- Laws of lists of sends: what is in flight once all were sent, one after the other; which messages are among the sends to all and to all
 -- but one, and among the first j of those. Rests on Flights and FlightLaws. Assumes nothing.
-use Prim.Native.Nat.{ℕ, zero, suc, _+_, _-_, _^_, _<_, _≤_, min}
+use Prim.Native.Nat.{ℕ, zero, suc, _+_, _-_, _<_, _≤_, min}
 use mathlib.Core.Path.{_≡_, refl, sym, ap, ap₂, _∙_}
 use mathlib.Core.Logic.{_⊎_, inl, inr}
 use mathlib.Core.Bool.{Bool, true, false, cond, not, _&&_, _||_, or-false, or-assoc, and-false, and-true, and-not-self, and-or-distrib-right}
-use mathlib.Core.List.{List, [], _∷_, _++_, append-nil}
+use mathlib.Core.List.{List, [], _∷_, _++_}
 use native.Mathlib.Omega.{arith}
 use native.Mathlib.Decide.{ℕ-discrete, decLe, decLt}
 use lib.Dec.{eqb, ltb, leb}
@@ -14,8 +14,7 @@ use borrow.Author.Tests.{eq-eqb, ne-eqb, eqb-true, lt-ltb, le-ltb, ltb-true, le-
 use Rattle.sets.specs.declared.Set.{Set}
 use Rattle.sets.specs.Below.{one}
 use Rattle.sets.specs.Masks.{hasBit}
-use Rattle.sets.specs.Truth.{test, never, both-ways, and-left, and-right, and-intro, and-implied, or-cases, or-left, or-right}
-use Rattle.sets.specs.Sets.{words, capacity}
+use Rattle.sets.specs.Truth.{both-ways, and-left, and-right, and-intro, and-implied, or-cases, or-left, or-right}
 use Rattle.site.specs.Sites.{sites}
 use Rattle.site.specs.Sends.{FIRST, SECOND, DELIVER, Send, first, second, deliver, toAll, toOthers}
 use Rattle.flight.specs.declared.Flight.{Flight}

@@ -27,7 +27,8 @@ use Rattle.site.specs.Sites.{sites}
 use Rattle.site.specs.Sends.{FIRST, SECOND, THIRD, DELIVER, forms, Send, first, second, third, deliver, entry}
 use Rattle.site.specs.Steps.{ownerOf}
 use Rattle.flight.specs.declared.Flight.{Flight}
-use Rattle.flight.specs.Flights.{Shape, receiversIn, messageIn, isCell, inFlight, cellAt, carriedBy, less, sendingTo, takingFrom, sending, sendingAll, takingOut}
+use Rattle.flight.specs.ArrayLaws.{write-keeps}
+use Rattle.flight.specs.Flights.{Shape, receiversIn, messageIn, isCell, inFlight, cellAt, carriedBy, less, sendingTo, takingFrom, sending, sendingAll, takingOut, cells, writeAt}
 use Rattle.flight.specs.CellLaws.{cell-range, range-cell, sameCell}
 use Rattle.flight.specs.FlightLaws.{Fits, sends, isThird, loadOf, isMessage, sending-shape, sending-in-flight, sending-carried, taking-shape, taking-in-flight, taking-carried}
 use Rattle.machine.specs.declared.Board.{Board}
@@ -94,14 +95,17 @@ set-below n l i v h hv k = elim (decLt i (length l)) [
   | no out ↦ rw (set-out l i v (omega arith)) (h k)
 ]
 
+write-below : (n : ℕ) (l : List ℕ) (i v : ℕ) → ((k : ℕ) → getD l k 0 < 2 ^ n) → v < 2 ^ n → (k : ℕ) → getD (writeAt cells l i v) k 0 < 2 ^ n
+write-below n l i v h hv = write-keeps (λ (r : List ℕ). (k : ℕ) → getD r k 0 < 2 ^ n) cells l i v h (set-below n l i v h hv)
+
 module _ (n : ℕ) (flight : Flight) (h : (k : ℕ) → getD (flight .masks) k 0 < 2 ^ n) where
   sent-below : (form m from to : ℕ) → to < n → (k : ℕ) → getD (sendingTo (flight .masks) form m from (2 ^ to)) k 0 < 2 ^ n
   unfolding sendingTo
-  sent-below form m from to lt = set-below n (flight .masks) (cellAt form m from) _ h (or-lt n (receiversIn (flight .masks) form m from) (2 ^ to) (h (cellAt form m from)) (pow-lt lt))
+  sent-below form m from to lt = write-below n (flight .masks) (cellAt form m from) _ h (or-lt n (receiversIn (flight .masks) form m from) (2 ^ to) (h (cellAt form m from)) (pow-lt lt))
 
   taken-below : (form m from to : ℕ) (k : ℕ) → getD (takingFrom (flight .masks) form m from to) k 0 < 2 ^ n
   unfolding takingFrom
-  taken-below form m from to = set-below n (flight .masks) (cellAt form m from) _ h (omega (arith, h (cellAt form m from)))
+  taken-below form m from to = write-below n (flight .masks) (cellAt form m from) _ h (omega (arith, h (cellAt form m from)))
 
 -- ---- one send
 

@@ -1,0 +1,92 @@
+-- What a function that refuses or does its work leaves and answers; the room that was tested; the books of what was read.
+-- Rests on Answers. Assumes nothing.
+use Prim.Native.Nat.{ℕ, _≤_}
+use mathlib.Core.Path.{_≡_, refl, fun-ext}
+use mathlib.Core.Bool.{Bool, true, false, cond, _&&_}
+use mathlib.Core.List.{List}
+use mathlib.Core.Logic.{inl, inr}
+use native.Mathlib.Omega.{arith}
+use lib.Dec.{leb, ltb}
+use lib.IntN.{ℤ, pos, natAbs}
+use lib.ListN.{length, getD, List·getD-eq-default}
+use mir.Syntax.{w64}
+use mir.Val.{SFits}
+use mir.Facts.{toZ-ofZ}
+use borrow.Author.Tests.{leb-true, ltb-true, ltb-false}
+use Rattle.sets.specs.Truth.{test, and-left, and-right}
+use Rattle.sets.specs.Sets.{capacity}
+use Rattle.posting.specs.declared.Table.{Table}
+use Rattle.posting.specs.declared.Record.{Record}
+use Rattle.posting.specs.Records.{numbersOf}
+use Rattle.posting.specs.Kinds.{accounts}
+use Rattle.books.specs.declared.Figures.{Figures}
+use Rattle.books.specs.declared.Sheet.{Sheet}
+use Rattle.books.specs.declared.Records.{Records}
+use Rattle.books.specs.Books.{blank, books, numbers, numbersOfSites, zeros, tabulate, figuresOf, sheetOf}
+use Rattle.books.specs.Bounds.{Room}
+use Rattle.books.proofs.Signed.{readBack}
+use Rattle.books.proofs.Lists.{length-tabulate, getD-tabulate}
+use Rattle.exported.specs.Bytes.{tableOf, recordOf, recordsOf}
+use Rattle.exported.specs.Answers.{answer, roomy, figuresAt}
+use Rattle.exported.proofs.Reading.{numbers-of}
+
+-- the answer and the slice, by whether all tests passed: what is done, or what is kept
+module _ {A : Type 0} (ok : Bool) (done kept : List A) where
+  pub is-refused : ok ≡ false → (255 ≡ answer ok) × (kept ≡ cond ok done kept)
+  is-refused f = rw f (refl, refl)
+
+  pub is-done : {left : List A} → ok ≡ true → left ≡ done → (0 ≡ answer ok) × (left ≡ cond ok done kept)
+  is-done t e = rw t (refl, e)
+
+-- figures that pass the test have room for one posting more
+pub has-room : (s : Figures) → roomy s ≡ true → Room s
+unfolding roomy
+has-room s t =
+    let p = leb (natAbs (s .position)) 200000000000000 in
+    let r = leb (natAbs (s .rate)) 10000 in
+    let c = leb (natAbs (s .called)) 4000000000000000000 in
+    let e = leb (natAbs (s .settled)) 4000000000000000000 in
+    let t1 = and-right p (r && (c && e)) t in
+    let t2 = and-right r (c && e) t1 in
+    record {
+      position = leb-true (natAbs (s .position)) 200000000000000 (and-left p (r && (c && e)) t);
+      rate = leb-true (natAbs (s .rate)) 10000 (and-left r (c && e) t1);
+      called = leb-true (natAbs (s .called)) 4000000000000000000 (and-left c e t2);
+      settled = leb-true (natAbs (s .settled)) 4000000000000000000 (and-right c e t2);
+    }
+
+-- what the machine reads of four numbers
+abbrev pub readFigures : List ℤ → Figures
+readFigures l = record {
+  position = readBack (getD l 0 (pos 0));
+  rate = readBack (getD l 1 (pos 0));
+  called = readBack (getD l 2 (pos 0));
+  settled = readBack (getD l 3 (pos 0));
+}
+
+pub figures-read : (l : List ℤ) → SFits w64 (getD l 0 (pos 0)) → SFits w64 (getD l 1 (pos 0)) → SFits w64 (getD l 2 (pos 0)) → SFits w64 (getD l 3 (pos 0))
+    → readFigures l ≡ figuresAt l
+figures-read l a b c d = rw (toZ-ofZ a, toZ-ofZ b, toZ-ofZ c, toZ-ofZ d)
+
+-- the figures of a sheet of zeros
+pub blank-figures : figuresOf (sheetOf blank) ≡ blank
+blank-figures = fun-ext (λ k. at k)
+  where
+    at : (k : ℕ) → getD (tabulate accounts blank) k zeros ≡ zeros
+    at k = elim (test (ltb k accounts)) [
+      | inl t ↦ getD-tabulate accounts blank zeros k (ltb-true k accounts t)
+      | inr f ↦
+          let b : length (tabulate accounts blank) ≤ k = omega (arith, length-tabulate accounts blank, ltb-false k accounts f) in
+          List·getD-eq-default (tabulate accounts blank) zeros b
+    ]
+
+-- ---- the books of what was read
+
+module _ (rows delivered : List ℕ) {table : Table} {opening : Sheet} (et : table ≡ tableOf rows) (eo : opening ≡ sheetOf blank) where
+  pub books-read : {lines : Record} → lines ≡ recordOf delivered → length delivered ≤ capacity
+      → numbers (books (figuresOf opening) table (numbersOf lines)) ≡ numbers (books blank (tableOf rows) delivered)
+  books-read e short = rw (et, eo, e, blank-figures, numbers-of delivered short)
+
+  pub sites-read : {records : Records} → records ≡ recordsOf delivered → (n : ℕ)
+      → numbersOfSites n (figuresOf opening) table records ≡ numbersOfSites n blank (tableOf rows) (recordsOf delivered)
+  sites-read e n = rw (et, eo, e, blank-figures)

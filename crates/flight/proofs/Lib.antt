@@ -1,0 +1,5 @@
+-- What the proofs of the functions share.
+-- Rests on the specs.
+pub mod Places
+pub mod Changes
+pub mod Loads

@@ -1,0 +1,148 @@
+// Holds: the size of a call, and the effect of a posting on an account's four numbers, compared.
+// Rests on: proved, inputs, tally, the model.
+
+use crate::inputs::{is_sound, odd_posting, sound_posting};
+use crate::proved::{self, DONE, NO_SIZE, REFUSED};
+use crate::tally::Tally;
+use model::posting::{CALL, CALLED, POSITION, RATE_OF};
+use model::prng::Prng;
+use model::{effect, Posting, ACCOUNTS, FIGURES};
+
+/// How large position, rate, called and settled may be, so that one posting more overflows none.
+const ROOM: [u64; 4] = [
+    200_000_000_000_000,
+    10_000,
+    4_000_000_000_000_000_000,
+    4_000_000_000_000_000_000,
+];
+
+/// What the model's CALL adds; nothing where the product is no i64 either way round.
+fn model_size(position: i64, rate: i64) -> u64 {
+    let product = u128::from(position.unsigned_abs()) * u128::from(rate.unsigned_abs());
+    if product >= 1 << 63 {
+        return NO_SIZE;
+    }
+    let mut figures = [0; FIGURES];
+    figures[POSITION] = position;
+    figures[RATE_OF] = rate;
+    let call = Posting {
+        kind: CALL,
+        ..Posting::default()
+    };
+    effect(&call, &mut figures);
+    figures[CALLED] as u64
+}
+
+fn same_size(tally: &mut Tally, position: i64, rate: i64) {
+    let model = model_size(position, rate);
+    let proved = proved::size_of_call(position, rate);
+    tally.same(model != NO_SIZE, proved, model, || {
+        format!("{position} {rate}")
+    });
+}
+
+/// Positions around zero, around multiples of 10,000 and around the largest that a rate allows.
+pub fn calls(tally: &mut Tally) {
+    let rates = [
+        0,
+        1,
+        2,
+        3,
+        250,
+        2_500,
+        5_000,
+        9_999,
+        10_000,
+        10_001,
+        -1,
+        -250,
+        -10_000,
+        i64::MAX,
+        i64::MIN,
+    ];
+    for rate in rates {
+        for near in -300..=300 {
+            same_size(tally, near, rate);
+            same_size(tally, 10_000 * (near / 7) + near % 7, rate);
+            same_size(tally, 1_000_000_000 * near, rate);
+            let largest = i64::MAX / rate.unsigned_abs().clamp(1, 1 << 62) as i64;
+            same_size(tally, largest.saturating_add(near), rate);
+            same_size(tally, (-largest).saturating_sub(near), rate);
+        }
+    }
+    let mut rng = Prng::new(5);
+    for _ in 0..20_000 {
+        let position = rng.word() as i64 >> rng.below(64);
+        let [usual, any] = [rng.below(10_001) as i64, rng.word() as i64 >> rng.below(64)];
+        let rate = rng.pick(&[usual, any]);
+        same_size(tally, position, rate);
+    }
+}
+
+/// One of an account's four numbers, mostly small, else around its limit or anything.
+fn figure(rng: &mut Prng, limit: u64) -> i64 {
+    let limit = limit as i64;
+    let near = rng.below(7) as i64 - 3;
+    let inside = rng.below(limit as u64 + 1) as i64;
+    let small = rng.below(40_001).min(limit as u64) as i64;
+    let whole = small / 10_000 * 10_000;
+    let any = rng.word() as i64;
+    let size = match rng.below(100) {
+        0..=1 => limit + near,
+        2 => rng.pick(&[i64::MAX, i64::MIN, any]),
+        3..=30 => inside,
+        31..=50 => whole,
+        51..=70 => near,
+        _ => small,
+    };
+    if rng.percent(50) {
+        size.wrapping_neg()
+    } else {
+        size
+    }
+}
+
+fn has_room(figures: &[i64]) -> bool {
+    let mut pairs = figures.iter().zip(ROOM);
+    pairs.all(|(figure, limit)| figure.unsigned_abs() <= limit)
+}
+
+/// The answer, and what the model makes of the slice's first four numbers as those of the account.
+fn model_effect(p: &Posting, account: u8, figures: &[i64]) -> (u8, Vec<i64>) {
+    let mut wanted = figures.to_vec();
+    if figures.len() < 4 || !is_sound(p) || !has_room(&figures[..4]) {
+        return (REFUSED, wanted);
+    }
+    let account = usize::from(account);
+    if account < ACCOUNTS {
+        let mut all = [0; FIGURES];
+        let place = 4 * account..4 * account + 4;
+        all[place.clone()].copy_from_slice(&figures[..4]);
+        effect(p, &mut all);
+        wanted[..4].copy_from_slice(&all[place]);
+    }
+    (DONE, wanted)
+}
+
+pub fn effects(tally: &mut Tally) {
+    let mut rng = Prng::new(6);
+    for _ in 0..150_000 {
+        let p = if rng.percent(15) {
+            odd_posting(&mut rng)
+        } else {
+            sound_posting(&mut rng, 16)
+        };
+        let any = rng.below(18) as u8;
+        let account = rng.pick(&[p.a, p.a, p.b, any, 255]);
+        let length = rng.pick(&[4, 4, 4, 4, 5, 9, 3, 0]);
+        let mut figures: Vec<i64> = (0..length)
+            .map(|at| figure(&mut rng, ROOM[at % 4]))
+            .collect();
+        let given = figures.clone();
+        let wanted = model_effect(&p, account, &figures);
+        let answer = proved::effect(&p, account, &mut figures);
+        tally.same(wanted.0 == DONE, (answer, figures), wanted, || {
+            format!("{p:?} {account} {given:?}")
+        });
+    }
+}
