@@ -14,13 +14,13 @@ use lib.Seq.{getD-set-same, getD-set-other, set-out, set-set, set-getD}
 use lib.Bits.{bitOr, or-lt, or-zero-r, and-zero-r}
 use borrow.Author.Tests.{eq-eqb, ne-eqb, ltb-true, lt-ltb, eqb-true, eqb-false}
 use Rattle.sets.specs.Masks.{hasBit}
-use Rattle.sets.specs.MaskLaws.{has-bit-or, has-bit-pow, bits-ext}
+use Rattle.sets.specs.MaskLaws.{has-bit-or, has-bit-pow}
 use Rattle.sets.specs.Truth.{test, never, and-left, and-right, and-implied, not-so}
 use Rattle.sets.specs.Sets.{capacity}
 use Rattle.site.specs.Sites.{sites}
 use Rattle.site.specs.Sends.{forms}
 use Rattle.flight.specs.Flights.{pairs, cells, isCell, pairAt, cellAt, readAt, writeAt, receiversIn, messageIn, goodIn, less, sendingTo, takingFrom, saying, Bytes}
-use Rattle.flight.specs.CellLaws.{or-assoc-below, has-bit-less, sameCell, same-cell, pair-below, pair-same, cell-range, range-cell, cell-below, cell-out, cell-same}
+use Rattle.flight.specs.CellLaws.{bit-or-assoc, less-less, has-bit-less, sameCell, same-cell, pair-below, pair-same, cell-range, range-cell, cell-below, cell-out, cell-same}
 
 -- ---- shape
 
@@ -241,34 +241,19 @@ unfolding saying
 saying-none good m from true = rw (or-zero-r (goodIn good m from)) (write-read pairs good (pairAt m from))
 saying-none good m from false = rw (and-zero-r (goodIn good m from), sub-zero (goodIn good m from)) (write-read pairs good (pairAt m from))
 
-module _ (masks : List ℕ) (s : Bytes cells masks) (form m from : ℕ) where
-  pub sending-twice :
-      (r q : ℕ) → r < 2 ^ 8 → q < 2 ^ 8 → sendingTo (sendingTo masks form m from r) form m from q ≡ sendingTo masks form m from (bitOr r q)
-  unfolding sendingTo
-  sending-twice r q hr hq =
-      let i = cellAt form m from in
-      write-twice cells masks i (bitOr (getD masks i 0) r) (λ w. bitOr w q)
-      ∙ ap (writeAt cells masks i) (or-assoc-below 8 (getD masks i 0) r q (byte-small masks i s) hr hq)
+pub sending-twice :
+    (masks : List ℕ) (form m from r q : ℕ) → sendingTo (sendingTo masks form m from r) form m from q ≡ sendingTo masks form m from (bitOr r q)
+unfolding sendingTo
+sending-twice masks form m from r q =
+    let i = cellAt form m from in
+    write-twice cells masks i (bitOr (getD masks i 0) r) (λ w. bitOr w q) ∙ ap (writeAt cells masks i) (bit-or-assoc (getD masks i 0) r q)
 
-less-less : (n u r q : ℕ) → u < 2 ^ n → less (less u r) q ≡ less u (bitOr r q)
-less-less n u r q h =
-    bits-ext n (less (less u r) q) (less u (bitOr r q)) (omega arith) (omega arith)
-    (λ k b. rw (has-bit-less (less u r) q k, has-bit-less u r k, has-bit-less u (bitOr r q) k, has-bit-or r q k)
-    (each (hasBit u k) (hasBit r k) (hasBit q k)))
-  where
-    each : (a b c : Bool) → (a && not b && not c) ≡ (a && not (b || c))
-    each true true c = refl
-    each true false c = refl
-    each false b c = refl
-
-module _ (good : List ℕ) (s : Bytes pairs good) (m from : ℕ) where
-  pub saying-twice : (so : Bool) (r q : ℕ) → r < 2 ^ 8 → q < 2 ^ 8 → saying (saying good m from r so) m from q so ≡ saying good m from (bitOr r q) so
-  unfolding saying
-  saying-twice true r q hr hq =
-      let i = pairAt m from in
-      write-read-twice pairs good i (bitOr (readAt pairs good i) r) (λ w. bitOr w q)
-      ∙ ap (writeAt pairs good i) (or-assoc-below 8 (readAt pairs good i) r q (read-small good i s) hr hq)
-  saying-twice false r q hr hq =
-      let i = pairAt m from in
-      write-read-twice pairs good i (less (readAt pairs good i) r) (λ w. less w q)
-      ∙ ap (writeAt pairs good i) (less-less 8 (readAt pairs good i) r q (read-small good i s))
+pub saying-twice :
+    (good : List ℕ) (m from : ℕ) (so : Bool) (r q : ℕ) → saying (saying good m from r so) m from q so ≡ saying good m from (bitOr r q) so
+unfolding saying
+saying-twice good m from true r q =
+    let i = pairAt m from in
+    write-read-twice pairs good i (bitOr (readAt pairs good i) r) (λ w. bitOr w q) ∙ ap (writeAt pairs good i) (bit-or-assoc (readAt pairs good i) r q)
+saying-twice good m from false r q =
+    let i = pairAt m from in
+    write-read-twice pairs good i (less (readAt pairs good i) r) (λ w. less w q) ∙ ap (writeAt pairs good i) (less-less (readAt pairs good i) r q)

@@ -1,6 +1,6 @@
 -- The sends to all, and to all but one, are one mask of receivers: the code of a step sends masks. Sends of the same message one after the other
 -- are the joined mask; the first j sends are a mask too. Rests on Flights, FlightLaws and SendLaws. Assumes nothing.
-use Prim.Native.Nat.{ℕ, zero, suc, _-_, _^_, _<_, _≤_, min}
+use Prim.Native.Nat.{ℕ, zero, suc, _-_, _^_, _<_, min}
 use mathlib.Core.Path.{_≡_, refl, sym, ap, _∙_}
 use mathlib.Core.Logic.{inl, inr, _≢_}
 use mathlib.Core.Bool.{Bool, true, false, cond, not, _&&_, _||_, or-false, and-false}
@@ -10,7 +10,7 @@ use native.Mathlib.Decide.{ℕ-discrete}
 use lib.Dec.{eqb, ltb}
 use lib.ListN.{take}
 use lib.Bits.{bitOr, or-lt, or-zero-l, or-zero-r, or-add-and, and-le-l}
-use lib.Pow.{pow-lt, pow-pos}
+use lib.Pow.{pow-pos}
 use borrow.Author.Tests.{eq-eqb, ne-eqb, eqb-true}
 use Rattle.sets.specs.declared.Set.{Set}
 use Rattle.sets.specs.Masks.{hasBit}
@@ -57,20 +57,20 @@ module _ (from form m : ℕ) (so : Bool) (load : Set) where
           rw (ne-eqb r 0 d, ne-eqb q 0 k, ne-eqb (bitOr r q) 0 n) (both is)
 
   pub mask-twice :
-      (flight : Flight) → Shape flight → (r q : ℕ) → r < 2 ^ 8 → q < 2 ^ 8
+      (flight : Flight) (r q : ℕ)
       → sendingMask (sendingMask flight from form m r so load) from form m q so load ≡ sendingMask flight from form m (bitOr r q) so load
   unfolding sendingMask
-  mask-twice flight s r q hr hq =
+  mask-twice flight r q =
       λ i. flightOf (masks i) (told (eqb form SECOND) i) (loading-twice (eqb form THIRD) (flight .carried) r q i)
     where
       masks : sendingTo (sendingTo (flight .masks) form m from r) form m from q ≡ sendingTo (flight .masks) form m from (bitOr r q)
-      masks = sending-twice (flight .masks) (s .masks) form m from r q hr hq
+      masks = sending-twice (flight .masks) form m from r q
 
       told :
           (b : Bool)
           → cond b (saying (cond b (saying (flight .good) m from r so) (flight .good)) m from q so) (cond b (saying (flight .good) m from r so) (flight .good))
           ≡ cond b (saying (flight .good) m from (bitOr r q) so) (flight .good)
-      told true = saying-twice (flight .good) (s .good) m from so r q hr hq
+      told true = saying-twice (flight .good) m from so r q
       told false = refl
 
 -- ---- the masks of all, and of all but p
@@ -122,49 +122,45 @@ third-broadcast m carried flight from to = send-mask flight from (third m to car
 pub deliver-broadcast : (m : ℕ) → Broadcast (λ to. deliver m to) DELIVER m false emptySet
 deliver-broadcast m flight from to = send-mask flight from (deliver m to)
 
-byte : (n : ℕ) → n < 8 → 2 ^ n < 2 ^ 8
-byte n h = pow-lt {j = 8} h
-
-module _ (send : ℕ → Send) (form m : ℕ) (so : Bool) (load : Set) (is : Broadcast send form m so load) (flight : Flight) (s : Shape flight) (from : ℕ) where
-  pub to-all-mask : (n : ℕ) → n ≤ 8 → sendingAll flight from (toAll n send) ≡ sendingMask flight from form m (2 ^ n - 1) so load
+module _ (send : ℕ → Send) (form m : ℕ) (so : Bool) (load : Set) (is : Broadcast send form m so load) (flight : Flight) (from : ℕ) where
+  pub to-all-mask : (n : ℕ) → sendingAll flight from (toAll n send) ≡ sendingMask flight from form m (2 ^ n - 1) so load
   unfolding toAll sendingAll
-  to-all-mask zero h = sym (mask-none from form m so load flight)
-  to-all-mask (suc n) h =
+  to-all-mask zero = sym (mask-none from form m so load flight)
+  to-all-mask (suc n) =
       all-append flight from (toAll n send) (send n ∷ [])
       ∙ is (sendingAll flight from (toAll n send)) from n
-      ∙ ap (λ (g : Flight). sendingMask g from form m (2 ^ n) so load) (to-all-mask n (omega arith))
-      ∙ mask-twice from form m so load flight s (2 ^ n - 1) (2 ^ n) (omega (arith, pow-pos n, byte n h)) (byte n h)
+      ∙ ap (λ (g : Flight). sendingMask g from form m (2 ^ n) so load) (to-all-mask n)
+      ∙ mask-twice from form m so load flight (2 ^ n - 1) (2 ^ n)
       ∙ ap (λ (r : ℕ). sendingMask flight from form m r so load) (ones-more n)
 
-  pub first-all-mask : (j n : ℕ) → n ≤ 8 → sendingAll flight from (take j (toAll n send)) ≡ sendingMask flight from form m (2 ^ min j n - 1) so load
-  first-all-mask j n h = rw (take-to-all send j n) (to-all-mask (min j n) (omega arith))
+  pub first-all-mask : (j n : ℕ) → sendingAll flight from (take j (toAll n send)) ≡ sendingMask flight from form m (2 ^ min j n - 1) so load
+  first-all-mask j n = rw (take-to-all send j n) (to-all-mask (min j n))
 
-  pub to-others-mask : (n p : ℕ) → n ≤ 8 → sendingAll flight from (toOthers n p send) ≡ sendingMask flight from form m (less (2 ^ n - 1) (2 ^ p)) so load
+  pub to-others-mask : (n p : ℕ) → sendingAll flight from (toOthers n p send) ≡ sendingMask flight from form m (less (2 ^ n - 1) (2 ^ p)) so load
   unfolding toOthers sendingAll
-  to-others-mask zero p h = sym (mask-none from form m so load flight)
-  to-others-mask (suc n) p h = elim (ℕ-discrete n p) [
-    | yes e ↦
-        rw (e, eq-eqb p p refl, append-nil, others-same p) (rw e at (to-others-mask n p (omega arith)))
+  to-others-mask zero p = sym (mask-none from form m so load flight)
+  to-others-mask (suc n) p = elim (ℕ-discrete n p) [
+    | yes e ↦ rw (e, eq-eqb p p refl, append-nil, others-same p) (rw e at (to-others-mask n p))
     | no d ↦
         rw (ne-eqb n p d)
         (all-append flight from (toOthers n p send) (send n ∷ [])
         ∙ is (sendingAll flight from (toOthers n p send)) from n
-        ∙ ap (λ (g : Flight). sendingMask g from form m (2 ^ n) so load) (to-others-mask n p (omega arith))
-        ∙ mask-twice from form m so load flight s (less (2 ^ n - 1) (2 ^ p)) (2 ^ n) (omega (arith, pow-pos n, byte n h)) (byte n h)
+        ∙ ap (λ (g : Flight). sendingMask g from form m (2 ^ n) so load) (to-others-mask n p)
+        ∙ mask-twice from form m so load flight (less (2 ^ n - 1) (2 ^ p)) (2 ^ n)
         ∙ ap (λ (r : ℕ). sendingMask flight from form m r so load) (others-more n p d))
   ]
 
   pub first-others-mask :
-      (j n p : ℕ) → n ≤ 8 → sendingAll flight from (take j (toOthers n p send)) ≡ sendingMask flight from form m (less (2 ^ min (upTo j p) n - 1) (2 ^ p)) so load
-  first-others-mask j n p h = rw (take-to-others send j n p) (to-others-mask (min (upTo j p) n) p (omega arith))
+      (j n p : ℕ) → sendingAll flight from (take j (toOthers n p send)) ≡ sendingMask flight from form m (less (2 ^ min (upTo j p) n - 1) (2 ^ p)) so load
+  first-others-mask j n p = rw (take-to-others send j n p) (to-others-mask (min (upTo j p) n) p)
 
 -- the verdict of the first j SECONDs to all is that of the sites that they reach; the others keep theirs
 pub first-all-good :
-    (flight : Flight) → Shape flight → (from m : ℕ) (good : Bool) → from < sites → m < capacity → (j n : ℕ) → n ≤ 8 → (x a b : ℕ)
+    (flight : Flight) → Shape flight → (from m : ℕ) (good : Bool) → from < sites → m < capacity → (j n x a b : ℕ)
     → hasBit (goodTo (sendingAll flight from (take j (toAll n (λ to. second m to good)))) x a) b
     ≡ cond (eqb x m && eqb a from && ltb b (min j n)) good (hasBit (goodTo flight x a) b)
-first-all-good flight s from m good hf hm j n h x a b =
+first-all-good flight s from m good hf hm j n x a b =
     ap (λ (g : Flight). hasBit (goodTo g x a) b)
-    (first-all-mask (λ to. second m to good) SECOND m good emptySet (second-broadcast m good) flight s from j n h)
+    (first-all-mask (λ to. second m to good) SECOND m good emptySet (second-broadcast m good) flight from j n)
     ∙ mask-good flight s from SECOND m (2 ^ min j n - 1) good emptySet hf hm x a b
     ∙ rw (has-bit-ones (min j n) b)

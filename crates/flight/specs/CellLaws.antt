@@ -3,12 +3,12 @@
 use Prim.Native.Nat.{ℕ, zero, suc, _+_, _*_, _-_, _/_, _^_, _<_, _≤_, min}
 use mathlib.Core.Path.{_≡_, refl, sym, ap, _∙_}
 use mathlib.Core.Logic.{_⊎_, inl, inr}
-use mathlib.Core.Bool.{Bool, true, false, not, _&&_, or-assoc, and-true}
+use mathlib.Core.Bool.{Bool, true, false, not, _&&_, _||_, or-assoc, and-true}
 use native.Mathlib.Omega.{arith}
 use native.Mathlib.Nat.{one-mul}
-use lib.Dec.{eqb, ltb, leb·suc-suc}
+use lib.Dec.{eqb, ltb, lit<, leb·suc-suc}
 use lib.Bits.{bitOr, and-step, and-le-l, or-lt, or-shifted-r}
-use lib.Pow.{pow-pos, ones-lt}
+use lib.Pow.{pow-pos, pow-mono, ones-lt}
 use borrow.Author.Tests.{eq-eqb, ne-eqb, eqb-true, lt-ltb, le-ltb, ltb-true}
 use Rattle.sets.specs.Below.{one}
 use Rattle.sets.specs.Masks.{hasBit}
@@ -59,10 +59,35 @@ has-bit-ones (suc n) (suc k) =
 pub ones-more : (n : ℕ) → bitOr (2 ^ n - 1) (2 ^ n) ≡ 2 ^ suc n - 1
 ones-more n = ap (bitOr (2 ^ n - 1)) (sym (one-mul (2 ^ n))) ∙ or-shifted-r 1 n (2 ^ n - 1) (ones-lt n) ∙ omega (arith, pow-pos n)
 
-pub or-assoc-below : (n u v w : ℕ) → u < 2 ^ n → v < 2 ^ n → w < 2 ^ n → bitOr (bitOr u v) w ≡ bitOr u (bitOr v w)
-or-assoc-below n u v w hu hv hw =
+below-pow : (n : ℕ) → n < 2 ^ n
+below-pow zero = lit< tt
+below-pow (suc n) = omega (arith, below-pow n)
+
+-- a number has its bits below any number that is no smaller
+within-pow : (x n : ℕ) → x ≤ n → x < 2 ^ n
+within-pow x n h = omega (arith, below-pow x, pow-mono h)
+
+pub bit-or-assoc : (u v w : ℕ) → bitOr (bitOr u v) w ≡ bitOr u (bitOr v w)
+bit-or-assoc u v w =
+    let n = u + (v + w) in
+    let hu = within-pow u n (omega arith) in
+    let hv = within-pow v n (omega arith) in
+    let hw = within-pow w n (omega arith) in
     bits-ext n (bitOr (bitOr u v) w) (bitOr u (bitOr v w)) (or-lt n (bitOr u v) w (or-lt n u v hu hv) hw) (or-lt n u (bitOr v w) hu (or-lt n v w hv hw))
     (λ k h. rw (has-bit-or (bitOr u v) w k, has-bit-or u v k, has-bit-or u (bitOr v w) k, has-bit-or v w k) (or-assoc (hasBit u k) (hasBit v k) (hasBit w k)))
+
+-- one mask after the other taken away
+pub less-less : (u r q : ℕ) → less (less u r) q ≡ less u (bitOr r q)
+less-less u r q =
+    let small = below-pow u in
+    bits-ext u (less (less u r) q) (less u (bitOr r q)) (omega arith) (omega arith)
+    (λ k b. rw (has-bit-less (less u r) q k, has-bit-less u r k, has-bit-less u (bitOr r q) k, has-bit-or r q k)
+    (each (hasBit u k) (hasBit r k) (hasBit q k)))
+  where
+    each : (a b c : Bool) → (a && not b && not c) ≡ (a && not (b || c))
+    each true true c = refl
+    each true false c = refl
+    each false b c = refl
 
 -- ---- places
 

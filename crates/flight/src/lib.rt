@@ -5,7 +5,7 @@ ghost use Prim.Native.Nat.{_^_};
 ghost use mathlib.Core.Path.{_≡_};
 ghost use lib.ListN.{take};
 ghost use Rattle.sets.specs.Masks.{hasBit};
-ghost use Rattle.flight.specs.Flights.{cells, less, pairAt, cellAt, messageIn, goodIn, setIn, sendingTo, takingFrom, goodSent, setSent, carrying, goodTaken, setTaken, lowestIn, nothingComes};
+ghost use Rattle.flight.specs.Flights.{cells, less, pairAt, cellAt, messageIn, goodIn, setIn, sendingTo, takingFrom, goodSent, setSent, carrying, goodTaken, setTaken, lowestIn, nothingComes, emptyFlight};
 use sets::POSTINGS;
 use sets::Set;
 use sets::WORDS;
@@ -42,6 +42,19 @@ pub enum Found {
         from: usize,
         to: usize,
     },
+}
+
+impl Flight {
+    // Nothing in flight.
+    pub fn empty() -> Flight
+        ensures { λ r. ⌜ r ≡ emptyFlight ⌝ }
+    {
+        Flight {
+            masks: [0; MASKS],
+            good: [0; PAIRS],
+            carried: [0; LOADS],
+        }
+    }
 }
 
 // ---- masks of sites
