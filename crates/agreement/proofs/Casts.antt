@@ -77,13 +77,13 @@ module _ (flight : Flight) (s : FlightShape flight) (p m : ℕ) where
     mask = 2 ^ n - 1;
     small = let h = pow-mono {i = n} {j = 8} (omega arith) in let k = ones-lt n in omega arith;
     bits = λ b lt. has-bit-ones n b ∙ sym (and-true (ltb b n));
-    is = to-all-mask send form m so load is flight s p n (omega arith);
+    is = to-all-mask send form m so load is flight p n;
   }
   cast-all send form so load is n few (After j) = record {
     mask = 2 ^ min j n - 1;
     small = let h = pow-mono {i = min j n} {j = 8} (omega arith) in let k = ones-lt (min j n) in omega arith;
     bits = λ b lt. has-bit-ones (min j n) b ∙ and-lt-min b j n;
-    is = first-all-mask send form m so load is flight s p j n (omega arith);
+    is = first-all-mask send form m so load is flight p j n;
   }
 
   -- to all but p
@@ -93,13 +93,13 @@ module _ (flight : Flight) (s : FlightShape flight) (p m : ℕ) where
     mask = less (2 ^ n - 1) (2 ^ p);
     small = let h = pow-mono {i = n} {j = 8} (omega arith) in let k = ones-lt n in omega arith;
     bits = λ b lt. has-bit-others n p b ∙ rw (and-true (ltb b n), eqb-turned b p) (and-comm (ltb b n) (not (eqb p b)));
-    is = to-others-mask send form m so load is flight s p n p (omega arith);
+    is = to-others-mask send form m so load is flight p n p;
   }
   cast-others send form so load is n few (After j) = record {
     mask = less (2 ^ min (upTo j p) n - 1) (2 ^ p);
     small = let h = pow-mono {i = min (upTo j p) n} {j = 8} (omega arith) in let k = ones-lt (min (upTo j p) n) in omega arith;
     bits = λ b lt. has-bit-others (min (upTo j p) n) p b ∙ below b;
-    is = first-others-mask send form m so load is flight s p j n p (omega arith);
+    is = first-others-mask send form m so load is flight p j n p;
   }
     where
       below : (b : ℕ) → (ltb b (min (upTo j p) n) && not (eqb b p)) ≡ (not (eqb p b) && (ltb b n && ltb (placeOf b p) j))
