@@ -1,0 +1,4 @@
+-- The tables of specs/, evaluated.
+-- Assumes nothing.
+pub mod Computes
+pub mod Evaluated

@@ -1,0 +1,150 @@
+-- M1 to M10 of document 01, "Marked for proof", in one table, each with its words.
+-- Rests on Trials.
+use Prim.Native.Nat.{ℕ}
+use mathlib.Core.Bool.{true, false}
+use mathlib.Core.List.{List, [], _∷_, _++_}
+use lib.IntN.{pos, negℤ}
+use Rattle.posting.specs.declared.Posting.{Posting}
+use Rattle.posting.specs.Kinds.{trade, rate, call, net}
+use Rattle.site.specs.Sends.{FIRST, SECOND, THIRD}
+use Rattle.machine.specs.declared.Board.{Board}
+use Rattle.machine.specs.declared.Cut.the-variants.{Whole}
+use Rattle.machine.specs.declared.Call.{Call}
+use Rattle.machine.specs.declared.Call.the-variants.{Offer, Receive}
+use Rattle.machine.specs.declared.Answer.the-variants.{Done, Offered, Refused}
+use Rattle.machine.specs.Runs.{running}
+use Rattle.drain.specs.declared.Ending.the-variants.{Quiet, Spent}
+use Rattle.cases.specs.Trials.{Entry, View, start, conflicts, called, calls, drain, look, answer, answered, said, figure, ended, left, Case, _gives_, begun}
+
+-- n 3, f 1, 0x5B6C
+abbrev pub began : Board
+began = begun 3 1 0x5B6C
+
+-- a receipt, whole
+abbrev pub arrives : ℕ → ℕ → ℕ → ℕ → Call
+arrives form posting from to = Receive form posting from to Whole
+
+-- a TRADE offered
+abbrev pub trading : List Call
+trading = Offer 0 trade 1 2 1000 Whole ∷ []
+
+-- postings of each kind
+abbrev pub aTrade : ℕ → ℕ → Posting
+aTrade account other = record { owner = 0; kind = trade; a = account; b = other; amount = 1000 }
+
+abbrev pub aRate : ℕ → Posting
+aRate account = record { owner = 0; kind = rate; a = account; b = account; amount = 250 }
+
+abbrev pub aCall : ℕ → Posting
+aCall account = record { owner = 0; kind = call; a = account; b = account; amount = 0 }
+
+abbrev pub aNet : ℕ → Posting
+aNet account = record { owner = 0; kind = net; a = account; b = account; amount = 0 }
+
+-- ---- the schedules of M9 and M10
+
+-- site 0 offers RATE, site 1 CALL, one account
+abbrev pub twoOffers : List Call
+twoOffers = Offer 0 rate 4 4 250 Whole ∷ Offer 1 call 4 4 0 Whole ∷ []
+
+-- each owner gets its own FIRST first, site 2 gets RATE's first
+abbrev pub ownFirsts : List Call
+ownFirsts = arrives FIRST 0 0 0 ∷ arrives FIRST 1 1 1 ∷ arrives FIRST 0 0 2 ∷ []
+
+-- the other FIRSTs
+abbrev pub otherFirsts : List Call
+otherFirsts = arrives FIRST 1 1 2 ∷ arrives FIRST 1 1 0 ∷ arrives FIRST 0 0 1 ∷ []
+
+-- sites 0 and 2 step RATE, on what 0 and 2 said of it
+abbrev pub rateSteps : List Call
+rateSteps = arrives SECOND 0 0 0 ∷ arrives SECOND 0 2 0 ∷ arrives SECOND 0 0 2 ∷ arrives SECOND 0 2 2 ∷ []
+
+-- site 0 receives RATE's THIRDs from 0 and 2
+abbrev pub rateThirds : List Call
+rateThirds = arrives THIRD 0 0 0 ∷ arrives THIRD 0 2 0 ∷ []
+
+-- sites 1 and 2 step CALL, on what 1 and 2 said of it, and site 1 receives their THIRDs
+abbrev pub callEnds : List Call
+callEnds =
+    arrives SECOND 1 1 1 ∷ arrives SECOND 1 2 1 ∷ arrives SECOND 1 1 2 ∷ arrives SECOND 1 2 2
+    ∷ arrives THIRD 1 1 1 ∷ arrives THIRD 1 2 1
+    ∷ []
+
+abbrev pub m9 : List Call
+m9 = twoOffers ++ (ownFirsts ++ (otherFirsts ++ (rateSteps ++ (rateThirds ++ callEnds))))
+
+-- the board that M9 ends on
+unfoldable pub m9End : Board
+m9End = running began m9
+
+abbrev pub m10 : List Call
+m10 = twoOffers ++ (ownFirsts ++ (rateSteps ++ (rateThirds ++ (otherFirsts ++ callEnds))))
+
+-- ---- the table
+
+unfoldable pub marked : List Case
+marked =
+    -- M1: n 2 gives 2; n 7, f 3 starts; n 8 gives 2.
+    start 2 0 0x5B6C gives answer (Refused 2)
+    ∷ start 7 3 0x5B6C gives answer Done
+    ∷ start 8 3 0x5B6C gives answer (Refused 2)
+    -- M2: n 4, f 2 gives 3.
+    ∷ start 4 2 0x5B6C gives answer (Refused 3)
+    -- M3: TRADE 1-2 and CALL 2 conflict; with CALL 3 not.
+    ∷ conflicts 0x5B6C (aTrade 1 2) (aCall 2) gives said true
+    ∷ conflicts 0x5B6C (aTrade 1 2) (aCall 3) gives said false
+    -- M4: two TRADEs 1-2 don't; two RATEs of 4 do; two NETs of 4 don't.
+    ∷ conflicts 0x5B6C (aTrade 1 2) (aTrade 1 2) gives said false
+    ∷ conflicts 0x5B6C (aRate 4) (aRate 4) gives said true
+    ∷ conflicts 0x5B6C (aNet 4) (aNet 4) gives said false
+    -- M5: rate 250: positions 1000, 1001, −1001, 0 are called 25, 26, 26, 0.
+    ∷ called (pos 1000) (pos 250) gives figure (pos 25)
+    ∷ called (pos 1001) (pos 250) gives figure (pos 26)
+    ∷ called (negℤ (pos 1001)) (pos 250) gives figure (pos 26)
+    ∷ called (pos 0) (pos 250) gives figure (pos 0)
+    -- M6: the list of the whole case.
+    ∷ calls began (Offer 0 trade 1 2 1000 Whole ∷ arrives FIRST 0 0 0 ∷ arrives FIRST 0 0 0 ∷ [])
+    gives answered (Offered 0 ∷ Done ∷ Refused 11 ∷ [])
+    -- M7: one TRADE offered, drain 22: 22 events, quiet.
+    ∷ drain (running began trading) 22 gives ended 22 Quiet
+    -- M8: drain 21: spent.
+    ∷ drain (running began trading) 21 gives ended 21 Spent
+    -- M9: site 0 offers RATE, site 1 CALL, one account; each owner gets its own FIRST first, site 2 gets RATE's first, and all FIRSTs
+    -- precede any SECOND: both enter the pool with empty sets.
+    ∷ look began m9 0
+    gives left
+    (record {
+      down = [];
+      delivers = [];
+      pool = record { posting = 0; carries = [] } ∷ record { posting = 1; carries = [] } ∷ [];
+      log = [];
+      places = 0 ∷ 0 ∷ 0 ∷ [];
+      records = [] ∷ [] ∷ [] ∷ [];
+      quiet = false;
+    })
+    -- M10: as M9, but sites 0 and 2 step RATE, on GOODs from 0 and 2, before CALL's FIRST reaches either of them, and site 0 receives
+    -- RATE's THIRDs from 0 and 2 before any other THIRD: RATE goes by DELIVER, CALL's entry carries it,
+    ∷ look began m10 0
+    gives left
+    (record {
+      down = [];
+      delivers = 0 ∷ [];
+      pool = record { posting = 1; carries = 0 ∷ [] } ∷ [];
+      log = [];
+      places = 0 ∷ 0 ∷ 0 ∷ [];
+      records = [] ∷ [] ∷ [] ∷ [];
+      quiet = false;
+    })
+    -- and once the board is quiet every record is 0 1.
+    ∷ look began m10 6784
+    gives left
+    (record {
+      down = [];
+      delivers = [];
+      pool = [];
+      log = record { posting = 1; carries = 0 ∷ [] } ∷ [];
+      places = 1 ∷ 1 ∷ 1 ∷ [];
+      records = (0 ∷ 1 ∷ []) ∷ (0 ∷ 1 ∷ []) ∷ (0 ∷ 1 ∷ []) ∷ [];
+      quiet = true;
+    })
+    ∷ []
