@@ -283,6 +283,13 @@ module _ (setup : Setup) (ok : setupOk setup ≡ true) (calls : List Call) where
       counted : (x : ℕ) → offered (running (freshBoard setup) calls .table) x ≡ true → x < length (offers (acceptedCalls (freshBoard setup) calls))
       counted x o = rw (← had setup ok calls .count) ((offered-below (running (freshBoard setup) calls .table) x o) .0)
 
+  -- The same from any opening figures, with the same order.
+  pub books-from : (opening : Books) (p : ℕ) → p < setup .n
+      → numbers (books opening (running (freshBoard setup) calls .table) (recordOf (running (freshBoard setup) calls) p))
+      ≡ numbers (books opening (running (freshBoard setup) calls .table) (share (recordOf (running (freshBoard setup) calls) p) (agree-fresh .order)))
+  unfolding agree-fresh
+  books-from opening p lt = ap numbers (same-books-from setup ok calls opening p (there setup ok calls p lt))
+
 -- ---- from an accepted start: demand 3
 
 module _ (n f matrix : ℕ) (ok : accepted (starting n f matrix .answer) ≡ true) (calls : List Call) where
