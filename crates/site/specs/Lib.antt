@@ -1,3 +1,5 @@
 pub mod Sites
 pub mod Sends
 pub mod Steps
+pub mod ByMask
+pub mod ByMaskLaws

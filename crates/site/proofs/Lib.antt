@@ -1,0 +1,6 @@
+-- What the proofs of the steps share.
+-- Rests on the specs.
+pub mod Counts
+pub mod Second
+pub mod Third
+pub mod Delivered
