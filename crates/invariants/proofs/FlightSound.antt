@@ -110,7 +110,7 @@ module _ (n : ℕ) (flight : Flight) (h : (k : ℕ) → getD (flight .masks) k 0
 -- ---- one send
 
 module _ (t : Table) (n : ℕ) (few : n ≤ sites) (p : ℕ) (lp : p < n) (before : Set) (site : Site) where
-  fits : (send : Send) → SendSound t n p before site send → Fits send
+  pub fits : (send : Send) → SendSound t n p before site send → Fits send
   fits (first m to) h = ((offered-below t m (h .0)) .1, omega (arith, h .1))
   fits (second m to good) h = ((offered-below t m (h .0)) .1, omega (arith, h .1))
   fits (third m to carried) h = ((offered-below t m (h .0)) .1, omega (arith, h .2), h .4)

@@ -33,7 +33,8 @@ use Rattle.site.specs.Sites.{sites, noSite, noTally, noSet, plus}
 use Rattle.site.specs.Sends.{forms, Send, Step}
 use Rattle.site.specs.Steps.{ownerOf, deliveredSite}
 use Rattle.flight.specs.declared.Flight.{Flight}
-use Rattle.flight.specs.Flights.{receiversIn, cellAt, sendingAll}
+use Rattle.flight.specs.Flights.{Shape as FlightShape, receiversIn, cellAt, sending, sendingAll}
+use Rattle.flight.specs.FlightLaws.{sending-shape}
 use Rattle.flight.specs.CellLaws.{cell-in}
 use Rattle.machine.specs.declared.Board.{Board}
 use Rattle.machine.specs.declared.Cut.{Cut}
@@ -50,7 +51,8 @@ use Rattle.invariants.proofs.StepSound.{SendSound, AllSends, all-take, 
 use Rattle.invariants.proofs.Grow.{Grows, offers-grow, record-grow, site-grow, tally-grow}
 use Rattle.invariants.proofs.Room.{listed-offered, record-room}
 use Rattle.invariants.proofs.PoolSound.{PoolSound, pool-sound}
-use Rattle.invariants.proofs.FlightSound.{FlightSound, flight-facts, facts-flight, sends-shape, sends-sound}
+use Rattle.invariants.proofs.FlightSound.{FlightSound, fits, flight-facts, facts-flight, sends-shape, sends-sound}
+use Rattle.invariants.proofs.Blank.{Past, Unloaded, Blank, deliveringAll-past, sending-unloaded}
 use Rattle.invariants.proofs.CarriedOut.{sendsOut, siteAfter, out-setup, out-table, out-log, out-down, out-sites, out-tallies, out-flight, out-pool, out-entries, out-site, out-site-other, out-tally, out-tally-other}
 
 -- ---- n, f
@@ -187,6 +189,38 @@ module _ (b : Board) (p m : ℕ) (step : Step) (cut : Cut) (i : Ready b p m)
         (sends-shape (b .table) (b .setup .n) few p (i .site) (siteAt b p .finished) (step .site) (b .flight) (sendsOut step cut) (i .shape .flight) sends-ok);
     pool = rw (out-pool b p m step cut) (pool-after .shape);
     log = rw (out-log b p m step cut) (i .shape .log);
+  }
+
+  -- ---- cells that hold nothing live
+
+  unloaded-after : (flight : Flight) (l : List Send) → FlightShape flight → AllSends (b .table) (b .setup .n) (SendSound (b .table) (b .setup .n) p (siteAt b p .finished) (step .site)) l
+      → Unloaded flight → Unloaded (sendingAll flight p l)
+  unfolding sendingAll
+  unloaded-after flight [] shape all u = u
+  unloaded-after flight (send ∷ l) shape all u =
+      let fit = fits (b .table) (b .setup .n) few p (i .site) (siteAt b p .finished) (step .site) send (all .0) in
+      let there : p < sites = omega (arith, i .site, few) in
+      unloaded-after (sending flight p send) l (sending-shape flight shape p there send fit) (all .1) (sending-unloaded flight shape u p there send fit)
+
+  after-past : Past (siteAt b p .delivered) → step .site .delivered ≡ siteAt b p .delivered → Past (siteAfter step cut .delivered)
+  after-past h e = go cut
+    where
+      go : (cut : Cut) → Past (siteAfter step cut .delivered)
+      go Whole = deliveringAll-past (step .site .delivered) (step .delivers) (rw e h)
+      go (After j) = rw e h
+
+  pub out-blank : step .site .delivered ≡ siteAt b p .delivered → Blank b → Blank out
+  out-blank e k = record {
+    sites-past = λ q le lt.
+        let past : b .setup .n ≤ q = rw (out-setup b p m step cut) at le in
+        rw (out-site-other b p m step cut q (λ d. omega (arith, i .site, past, d))) (k .sites-past q past lt);
+    rows-past = rw (out-table b p m step cut) (k .rows-past);
+    records-past = λ q lq. elim (ℕ-discrete q p) [
+      | yes d ↦ rw (d, out-site b p m step cut p-place) (after-past (k .records-past p (rw d at lq)) e)
+      | no d ↦ rw (out-site-other b p m step cut q d) (k .records-past q lq)
+    ];
+    log-past = rw (out-log b p m step cut) (k .log-past);
+    unloaded = rw (out-flight b p m step cut) (unloaded-after (b .flight) (sendsOut step cut) (i .shape .flight) sends-ok (k .unloaded));
   }
 
   pub out-sound : Sound out

@@ -10,6 +10,7 @@ pub mod History
 pub mod Grow
 pub mod PoolSound
 pub mod FlightSound
+pub mod Blank
 pub mod Kept
 pub mod Reached
 pub mod Start

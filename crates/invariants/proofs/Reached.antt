@@ -8,6 +8,7 @@ use mathlib.Core.List.{List, [], _∷_, _++_}
 use native.Mathlib.Omega.{arith}
 use native.Mathlib.Decide.{ℕ-discrete}
 use lib.Dec.{eqb, ltb, leb}
+use lib.Seq.{getD-set-other}
 use lib.ListN.{length, getD, set, take, length-set, replicate, length-replicate, getD-replicate}
 use lib.Bits.{or-lt}
 use lib.Pow.{pow-lt, pow-pos}
@@ -23,7 +24,7 @@ use Rattle.sets.specs.Sets.{capacity, words, has, without, emptySet, Shape}
 use Rattle.posting.specs.declared.Posting.{Posting}
 use Rattle.posting.specs.declared.Table.{Table}
 use Rattle.posting.specs.Kinds.{fieldsOk}
-use Rattle.posting.specs.Conflicts.{row, offered}
+use Rattle.posting.specs.Conflicts.{noPosting, row, offered}
 use Rattle.posting.specs.ConflictLaws.{offered-below, below-offered}
 use Rattle.posting.specs.Records.{numbersOf, contains, append}
 use Rattle.posting.specs.RecordLaws.{Places, append-places, numbers-append, append-room, empty-places}
@@ -52,12 +53,14 @@ use Rattle.invariants.proofs.Grow.{Grows, table-grows, new-row, offered
 use Rattle.invariants.proofs.Room.{listed-offered, record-room, listed-at}
 use Rattle.invariants.proofs.FlightSound.{FlightSound, MessageSound, flight-facts, facts-flight, taken-sound}
 use Rattle.invariants.proofs.Judged.{Acts, OfferTaken, ReceiptTaken, OrderTaken, ReadTaken, CrashTaken, offer-taken, receipt-taken, order-taken, read-taken, crash-taken, refused-same, readStep, offerStep, nextLogged}
-use Rattle.invariants.proofs.Kept.{Ready, setup-sites, cells-below, out-shape, out-sound}
+use Rattle.invariants.proofs.Blank.{Blank, append-past, taking-unloaded, receipt-record}
+use Rattle.invariants.proofs.Kept.{Ready, setup-sites, cells-below, out-shape, out-sound, out-blank}
 
--- sound and in shape
+-- sound and in shape, and cells that hold nothing live are blank
 pub record Good (b : Board) : Type 0 where
   pub shape : BoardShape b
   pub sound : Sound b
+  pub blank : Blank b
 
 pub good-sites : (b : Board) → Good b → b .setup .n ≤ sites
 good-sites b g = (setup-sites (b .setup) (g .sound .setup)) .1
@@ -88,6 +91,19 @@ module _ (b : Board) (g : Good b) (posting : Posting) (room : b .table .count < 
     | yes e ↦ rw (e, new-row (b .table) posting (omega (arith, g .shape .rows, room))) new
     | no d ↦ let k = offered-old (b .table) posting m d o in rw (grows .same m k) (old m k)
   ]
+
+  table-blank : Blank (boardTable b more)
+  unfolding row
+  table-blank = record {
+    sites-past = g .blank .sites-past;
+    rows-past = λ m le. rows m le;
+    records-past = g .blank .records-past;
+    log-past = g .blank .log-past;
+    unloaded = g .blank .unloaded;
+  }
+    where
+      rows : (m : ℕ) → b .table .count + 1 ≤ m → row more m ≡ noPosting
+      rows m le = let d : m ≢ b .table .count = λ e. omega arith in getD-set-other (b .table .rows) (b .table .count) m posting noPosting d ∙ g .blank .rows-past m (omega arith)
 
   table-shape : BoardShape (boardTable b more)
   table-shape = record {
@@ -161,6 +177,13 @@ module _ (b : Board) (g : Good b) (form m from to : ℕ) (hm : m < capacity) (hf
           pool = g .shape .pool;
           log = g .shape .log;
         };
+        blank = record {
+          sites-past = g .blank .sites-past;
+          rows-past = g .blank .rows-past;
+          records-past = g .blank .records-past;
+          log-past = g .blank .log-past;
+          unloaded = taking-unloaded (b .flight) (g .shape .flight) (g .blank .unloaded) form m from to hm hf;
+        };
         sound = record {
           setup = g .sound .setup;
           count = g .sound .count;
@@ -178,12 +201,14 @@ module _ (b : Board) (g : Good b) (form m from to : ℕ) (hm : m < capacity) (hf
 
 -- ---- the calls
 
-module _ (b : Board) (shape : BoardShape b) where
+module _ (b : Board) (g : Good b) where
+  shape : BoardShape b
+  shape = g .shape
+
   offer-good : (site kind account other amount : ℕ) (cut : Cut) → OfferTaken b site kind account other amount cut → Good (taking b (Offer site kind account other amount cut) .board)
   unfolding taking
   offer-good site kind account other amount cut k =
       let posting : Posting = record { owner = site; kind = kind; a = account; b = other; amount = amount } in
-      let g : Good b = record { shape = shape; sound = sound-facts b shape (k .sound) } in
       let t = tableWith (b .table) posting in
       let on = boardTable b t in
       let m = b .table .count in
@@ -195,12 +220,16 @@ module _ (b : Board) (shape : BoardShape b) where
       let o = below-offered t m (omega arith) lt in
       let step = offer-step t (b .setup .n) (b .log .count) (siteAt b site) (sound .each-site site (k .acts .there)) (shape .each-site site (omega (arith, k .acts .there)))
       (tallyAt b m) m (sound .each-tally m lt) (shape .each-union m lt) (b .setup) site refl o in
-      rw (k .board) (record { shape = out-shape on site m (offerStep b site) cut ready step; sound = out-sound on site m (offerStep b site) cut ready step })
+      let blank = table-blank b g posting (k .room) (k .acts .there) (k .fields) in
+      rw (k .board) (record {
+        shape = out-shape on site m (offerStep b site) cut ready step;
+        sound = out-sound on site m (offerStep b site) cut ready step;
+        blank = out-blank on site m (offerStep b site) cut ready step (unfold onOffer in refl) blank;
+      })
 
   receipt-good : (form m from to : ℕ) (cut : Cut) → ReceiptTaken b form m from to cut → Good (taking b (Receive form m from to cut) .board)
   unfolding taking
   receipt-good form m from to cut k =
-      let g : Good b = record { shape = shape; sound = sound-facts b shape (k .sound) } in
       let few = good-sites b g in
       let message = good-flight b g .each form m from to (k .coming) in
       let lt = (offered-below (b .table) m (message .named)) .1 in
@@ -209,7 +238,11 @@ module _ (b : Board) (shape : BoardShape b) where
       let after = taken-good b g form m from to lt hf in
       let ready : Ready on to m = record { shape = after .shape; sound = after .sound; site = k .acts .there; posting = lt } in
       let step = receipt-step g few message lt in
-      rw (k .board) (record { shape = out-shape on to m (receiptOf b form m from to) cut ready step; sound = out-sound on to m (receiptOf b form m from to) cut ready step })
+      rw (k .board) (record {
+        shape = out-shape on to m (receiptOf b form m from to) cut ready step;
+        sound = out-sound on to m (receiptOf b form m from to) cut ready step;
+        blank = out-blank on to m (receiptOf b form m from to) cut ready step (receipt-record b form m from to) (after .blank);
+      })
     where
       receipt-step : (g : Good b) → b .setup .n ≤ sites → MessageSound (b .table) (b .setup .n) (b .flight) form m from to → m < capacity
           → StepSound (b .table) (b .setup .n) (b .log .count) m to (siteAt b to .finished) (receiptOf b form m from to)
@@ -238,7 +271,6 @@ module _ (b : Board) (shape : BoardShape b) where
   read-good : (site : ℕ) (cut : Cut) → ReadTaken b site cut → Good (taking b (Read site cut) .board)
   unfolding taking
   read-good site cut k =
-      let g : Good b = record { shape = shape; sound = sound-facts b shape (k .sound) } in
       let few = good-sites b g in
       let m = nextLogged b site in
       let o = g .sound .log .named (siteAt b site .place) (k .left) in
@@ -247,7 +279,11 @@ module _ (b : Board) (shape : BoardShape b) where
       let step = entry-step (b .table) (b .setup .n) (b .log .count) (siteAt b site) (g .sound .each-site site (k .acts .there)) (shape .each-site site (omega (arith, k .acts .there)))
       (tallyAt b m) m (g .sound .each-tally m lt) (shape .each-union m lt) site (entryAt b m) o
       (g .sound .each-entry m lt .carries (inr (logged g))) (omega (arith, k .left)) in
-      rw (k .board) (record { shape = out-shape b site m (readStep b site) cut ready step; sound = out-sound b site m (readStep b site) cut ready step })
+      rw (k .board) (record {
+        shape = out-shape b site m (readStep b site) cut ready step;
+        sound = out-sound b site m (readStep b site) cut ready step;
+        blank = out-blank b site m (readStep b site) cut ready step (unfold onEntry in refl) (g .blank);
+      })
     where
       logged : Good b → listed (nextLogged b site) (numbersOf (b .log)) ≡ true
       logged g = unfold numbersOf in at-listed (b .log .numbers) (b .log .count) (siteAt b site .place) (k .left) (omega (arith, g .sound .log .within, shape .log))
@@ -255,7 +291,6 @@ module _ (b : Board) (shape : BoardShape b) where
   order-good : (m : ℕ) → OrderTaken b m → Good (taking b (Order m) .board)
   unfolding taking
   order-good m k =
-      let g : Good b = record { shape = shape; sound = sound-facts b shape (k .sound) } in
       let o = g .sound .pool m (k .pooled) in
       let lt = (offered-below (b .table) m o) .1 in
       let lacks : contains (b .log) m ≡ false = not-so (contains (b .log) m) (λ h. g .sound .each-entry m lt .apart (k .pooled) (unfold contains in h)) in
@@ -306,12 +341,18 @@ module _ (b : Board) (shape : BoardShape b) where
             carries = λ h. i .carries (before x h);
           };
         };
+        blank = record {
+          sites-past = g .blank .sites-past;
+          rows-past = g .blank .rows-past;
+          records-past = g .blank .records-past;
+          log-past = append-past (b .log) m (g .blank .log-past);
+          unloaded = g .blank .unloaded;
+        };
       })
 
   crash-good : (site : ℕ) → CrashTaken b site → Good (taking b (Crash site) .board)
   unfolding taking
   crash-good site k =
-      let g : Good b = record { shape = shape; sound = sound-facts b shape (k .sound) } in
       rw (k .board) (record {
         shape = record {
           rows = shape .rows;
@@ -339,6 +380,13 @@ module _ (b : Board) (shape : BoardShape b) where
           log = g .sound .log;
           each-entry = λ x lx. let i = g .sound .each-entry x lx in record { apart = i .apart; finished = i .finished; carries = i .carries };
         };
+        blank = record {
+          sites-past = g .blank .sites-past;
+          rows-past = g .blank .rows-past;
+          records-past = g .blank .records-past;
+          log-past = g .blank .log-past;
+          unloaded = g .blank .unloaded;
+        };
       })
 
 -- ---- every call, and a run
@@ -350,11 +398,11 @@ call-good b g c = elim (test (accepted (taking b c .answer))) [
 ]
   where
     taken : (c : Call) → accepted (taking b c .answer) ≡ true → Good (taking b c .board)
-    taken (Offer site kind account other amount cut) t = offer-good b (g .shape) site kind account other amount cut (offer-taken b site kind account other amount cut (unfold taking in t))
-    taken (Receive form m from to cut) t = receipt-good b (g .shape) form m from to cut (receipt-taken b form m from to cut (unfold taking in t))
-    taken (Order m) t = order-good b (g .shape) m (order-taken b m (unfold taking in t))
-    taken (Read site cut) t = read-good b (g .shape) site cut (read-taken b site cut (unfold taking in t))
-    taken (Crash site) t = crash-good b (g .shape) site (crash-taken b site (unfold taking in t))
+    taken (Offer site kind account other amount cut) t = offer-good b g site kind account other amount cut (offer-taken b site kind account other amount cut (unfold taking in t))
+    taken (Receive form m from to cut) t = receipt-good b g form m from to cut (receipt-taken b form m from to cut (unfold taking in t))
+    taken (Order m) t = order-good b g m (order-taken b m (unfold taking in t))
+    taken (Read site cut) t = read-good b g site cut (read-taken b site cut (unfold taking in t))
+    taken (Crash site) t = crash-good b g site (crash-taken b site (unfold taking in t))
 
 pub run-good : (b : Board) (l : List Call) → Good b → Good (running b l)
 unfolding running

@@ -17,7 +17,7 @@ use Rattle.sets.specs.WordLaws.{empty-shape, member-empty}
 use Rattle.sets.specs.Sets.{capacity, words, has, emptySet, Shape}
 use Rattle.posting.specs.declared.Table.{Table}
 use Rattle.posting.specs.Kinds.{symmetric, hasFixedPairs}
-use Rattle.posting.specs.Conflicts.{noPosting, offered}
+use Rattle.posting.specs.Conflicts.{noPosting, row, offered}
 use Rattle.posting.specs.ConflictLaws.{offered-below}
 use Rattle.posting.specs.Records.{numbersOf}
 use Rattle.posting.specs.RecordLaws.{empty-places}
@@ -28,6 +28,7 @@ use Rattle.site.specs.Sites.{sites, blankSite, blankTally, noSite, noTally, noS
 use Rattle.flight.specs.Flights.{emptyFlight}
 use Rattle.flight.specs.FlightLaws.{empty-flight-shape, empty-in-flight}
 use Rattle.flight.specs.ArrayLaws.{zero-at}
+use Rattle.flight.specs.FlightLaws.{empty-good, empty-carried}
 use Rattle.machine.specs.declared.Board.{Board}
 use Rattle.machine.specs.declared.Call.{Call}
 use Rattle.machine.specs.declared.Outcome.{Outcome}
@@ -36,6 +37,7 @@ use Rattle.machine.specs.Soundness.{allOf, setupOk, sitesOk, crashesOk, isSound
 use Rattle.machine.specs.Calls.{starting}
 use Rattle.machine.specs.Runs.{taking, accepted, running}
 use Rattle.machine.specs.History.{acceptedCalls, offers, orders, reads, broughtDown}
+use Rattle.invariants.proofs.Blank.{Blank}
 use Rattle.invariants.proofs.Shapes.{SiteShape, BoardShape}
 use Rattle.invariants.proofs.Sound.{to-all, Offers, MaskSound, RecordSound, SiteSound, TallySound, Sound}
 use Rattle.invariants.proofs.SoundTest.{facts-sound}
@@ -128,8 +130,23 @@ module _ (setup : Setup) (ok : setupOk setup ≡ true) where
     log = empty-places;
   }
 
+  fresh-blank : Blank b
+  fresh-blank = record {
+    sites-past = λ p le lt. blank-at p lt;
+    rows-past = λ m le. unfold row in no-row capacity m;
+    records-past = λ p lt. rw (blank-at p lt) (λ k le. zero-at capacity k);
+    log-past = λ k le. zero-at capacity k;
+    unloaded = record { no-good = λ m from to none. empty-good m from to; no-carried = λ m from none. empty-carried m from };
+  }
+    where
+      no-row : (k m : ℕ) → getD (replicate k noPosting) m noPosting ≡ noPosting
+      no-row zero m = refl
+      no-row (suc k) zero = refl
+      no-row (suc k) (suc m) = no-row k m
+
   pub fresh-good : Good b
   fresh-good = record {
+    blank = fresh-blank;
     shape = fresh-shape;
     sound = record {
       setup = ok;
@@ -190,6 +207,10 @@ module _ (n f matrix : ℕ) (ok : accepted (starting n f matrix .answer) ≡ tru
 
   pub reached-sound : isSound (running (starting n f matrix .board) calls) ≡ true
   reached-sound = facts-sound (running (starting n f matrix .board) calls) (reached-good .shape) (good-sites _ reached-good) (reached-good .sound)
+
+  -- Cells that hold nothing live are blank.
+  pub reached-blank : Blank (running (starting n f matrix .board) calls)
+  reached-blank = reached-good .blank
 
   -- What the list has done.
   pub reached-done : Done (running (starting n f matrix .board) calls) (acceptedCalls (starting n f matrix .board) calls)
