@@ -266,6 +266,8 @@ module _ (setup : Setup) (ok : setupOk setup ≡ true) (calls : List Call) where
   -- The books agree after every list of calls from a fresh board.
   pub agree-fresh : BooksAgreeAfter (setup .n) (setup .matrix) (freshBoard setup) calls
   agree-fresh = record {
+    rows = λ m lt. had setup ok calls .rows m (rw (had setup ok calls .count) lt);
+    only-offered = λ p x lt h. counted x (named setup ok calls p x (there setup ok calls p lt) h);
     order = order setup ok calls;
     one-order = one setup ok calls;
     ceiling = λ m lt. spends setup ok calls m;

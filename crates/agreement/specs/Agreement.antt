@@ -6,7 +6,7 @@ use mathlib.Core.Bool.{true, false}
 use mathlib.Core.List.{List, [], _++_}
 use lib.ListN.{length, getD}
 use Rattle.sets.specs.Sets.{has}
-use Rattle.posting.specs.Conflicts.{noPosting, conflict}
+use Rattle.posting.specs.Conflicts.{noPosting, row, conflict}
 use Rattle.books.specs.Books.{blank, books, numbers}
 use Rattle.machine.specs.declared.Board.{Board}
 use Rattle.machine.specs.declared.Call.{Call}
@@ -38,6 +38,10 @@ pub record OneOrder (n matrix : ℕ) (b : Board) (order : List ℕ) : Type 0 whe
 
 -- Of a list of calls from a board `start` of n sites. `done` is what was accepted of it; posting m is the one of the mth offer of `done`.
 pub record BooksAgree (n matrix : ℕ) (start : Board) (calls done : List Call) (b : Board) : Type 0 where
+  -- The table's rows are the postings offered, in the order of their offers, and no other is delivered.
+  pub rows : (m : ℕ) → m < length (offers done) → row (b .table) m ≡ getD (offers done) m noPosting
+  pub only-offered : (p x : ℕ) → p < n → In x (recordOf b p) → x < length (offers done)
+  -- 1 to 4.
   pub order : List ℕ
   pub one-order : OneOrder n matrix b order
   -- 5. Each posting offered is named by at most 2n² + n + 1 accepted receipts, orders and readings; and all together have that many per offer.
