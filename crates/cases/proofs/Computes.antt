@@ -15,6 +15,7 @@ use Rattle.site.specs.Steps.{alone, onOffer, onFirst, stepSecond, onSecond, ste
 use Rattle.flight.specs.Flights.{pairAt, cellAt, messageIn, wordsFrom, setIn, sendingTo, takingFrom, saying, carrying, nothingComes, inFlight, sending, sendingAll, takingOut, lowestTo, lowestFrom}
 use Rattle.machine.specs.Soundness.{allOf, setupOk, recordOk, siteOk, tallyOk, cellOk, cellsOk, entryOk, isSound}
 use Rattle.machine.specs.Calls.{judged, starting, pooling, entering, carriedOut, offering, receiptOf, receiving, ordering, reading, crashing}
+use Rattle.machine.specs.Figures.{figuresOf, figuresOfAll, shown, showing, showingAll}
 use Rattle.machine.specs.Runs.{taking, running, answers, upMask, isQuiet}
 use Rattle.drain.specs.Drain.{nextRead, nextOrder, nextAfter, nextEvent, draining, drained}
 use Rattle.cases.specs.Trials.{isDelivering, entriesOf, view, looked, found}
@@ -41,7 +42,7 @@ unfolding pairAt cellAt messageIn wordsFrom setIn sendingTo takingFrom saying ca
 of-flight = true
 
 unfoldable pub of-machine : Bool
-unfolding allOf setupOk recordOk siteOk tallyOk cellOk cellsOk entryOk isSound judged starting pooling entering carriedOut offering receiptOf receiving ordering reading crashing taking running answers upMask isQuiet
+unfolding allOf setupOk recordOk siteOk tallyOk cellOk cellsOk entryOk isSound judged starting pooling entering carriedOut offering receiptOf receiving ordering reading crashing taking running answers upMask isQuiet figuresOf figuresOfAll shown showing showingAll
 of-machine = true
 
 unfoldable pub of-drain : Bool

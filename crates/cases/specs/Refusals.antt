@@ -12,7 +12,7 @@ use Rattle.machine.specs.declared.Call.the-variants.{Offer, Receive, Order, Rea
 use Rattle.machine.specs.declared.Answer.the-variants.{Done, Offered, Refused}
 use Rattle.machine.specs.Boards.{boardDown}
 use Rattle.machine.specs.Runs.{running}
-use Rattle.cases.specs.Trials.{start, ask, answer, Case, _gives_, begun}
+use Rattle.cases.specs.Trials.{start, ask, books, booksOfAll, answer, Case, _gives_, begun}
 use Rattle.cases.specs.Cases.{began, arrives, trading, twoOffers, ownFirsts, otherFirsts, rateSteps, rateThirds}
 use Rattle.cases.specs.Unsound.{busy, offeredBoard}
 
@@ -192,4 +192,16 @@ refusals =
     ∷ ask (running began (offers 0 (After 0) ∷ [])) (Crash 1) gives answer (Refused 14)
     -- none
     ∷ ask (crashed (begun 5 2 0x5B6C)) (Crash 4) gives answer Done
+    -- Books of one site. 6 and 7; 7; 7 and 16; 16; none, up or down
+    ∷ books refusedStart 0 64 gives answer (Refused 6)
+    ∷ books busy 3 64 gives answer (Refused 7)
+    ∷ books busy 3 63 gives answer (Refused 7)
+    ∷ books busy 0 63 gives answer (Refused 16)
+    ∷ books busy 0 64 gives answer Done
+    ∷ books (crashed busy) 0 65 gives answer Done
+    -- Books of all sites. 6 and 16; 6; 16; none, up or down
+    ∷ booksOfAll (boardDown busy 8) 191 gives answer (Refused 6)
+    ∷ booksOfAll refusedStart 0 gives answer (Refused 6)
+    ∷ booksOfAll busy 191 gives answer (Refused 16)
+    ∷ booksOfAll (boardDown busy 7) 192 gives answer Done
     ∷ []

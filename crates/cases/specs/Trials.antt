@@ -5,7 +5,7 @@ use mathlib.Core.Path.{_≡_}
 use mathlib.Core.Bool.{Bool, true, false, _&&_}
 use mathlib.Core.List.{List, [], _∷_, map}
 use lib.IntN.{ℤ, pos}
-use lib.ListN.{take}
+use lib.ListN.{take, replicate}
 use Rattle.sets.specs.Below.{anyBelow}
 use Rattle.sets.specs.Words.{membersBelow}
 use Rattle.sets.specs.Sets.{membersOf, setOf}
@@ -23,6 +23,7 @@ use Rattle.machine.specs.Boards.{entryAt}
 use Rattle.machine.specs.Soundness.{isSound}
 use Rattle.machine.specs.Calls.{starting}
 use Rattle.machine.specs.Runs.{taking, accepted, answers, isQuiet}
+use Rattle.machine.specs.Figures.{showing, showingAll}
 use Rattle.drain.specs.declared.Ending.{Ending}
 use Rattle.drain.specs.Drain.{Next, nextEvent, drained}
 
@@ -76,6 +77,9 @@ pub data Trial : Type 0 where
   ask : Board → Call → Trial
   -- calls on a board, each on what the one before it returned
   calls : Board → List Call → Trial
+  -- the books of a site, or of all sites, on a board, into a slice of so many numbers
+  books : Board → (site : ℕ) → (long : ℕ) → Trial
+  booksOfAll : Board → (long : ℕ) → Trial
   -- what a drain does next on a board
   next : Board → Trial
   -- a drain of a board, with its limit
@@ -116,6 +120,8 @@ found (called position rate) =
     figure (effect callOfZero 0 (record { position = position; rate = rate; called = pos 0; settled = pos 0 }) .called)
 found (ask b c) = answer (taking b c .answer)
 found (calls b l) = answered (answers b l)
+found (books b site long) = answer (showing b site (replicate long (pos 0)) .answer)
+found (booksOfAll b long) = answer (showingAll b (replicate long (pos 0)) .answer)
 found (next b) = does (nextEvent b)
 found (drain b limit) = let d = drained b limit in ended (d .count) (d .ending)
 found (look b l limit) = looked b l limit

@@ -1,11 +1,11 @@
 -- Boards unsound in each way that document 01 lists under refusal 6, one thing changed at a time, and odd ones that are sound.
 -- Rests on Trials, and on Cases for the schedule of M9.
-use Prim.Native.Nat.{ℕ}
+use Prim.Native.Nat.{ℕ, _*_}
 use mathlib.Core.Bool.{true, false}
 use mathlib.Core.List.{List, [], _∷_}
 use lib.ListN.{set, replicate}
 use Rattle.sets.specs.declared.Set.{Set}
-use Rattle.sets.specs.Sets.{capacity, emptySet, ofWords, with}
+use Rattle.sets.specs.Sets.{words, capacity, emptySet, ofWords, with, membersOf}
 use Rattle.posting.specs.declared.Posting.{Posting}
 use Rattle.posting.specs.declared.Record.{Record}
 use Rattle.posting.specs.Kinds.{trade, rate, call, net}
@@ -15,7 +15,7 @@ use Rattle.site.specs.declared.Tally.{Tally}
 use Rattle.site.specs.Sites.{siteSeen, siteHeard, siteStepped, siteFinished, siteGot, sitePlace, siteDelivered}
 use Rattle.site.specs.Sends.{FIRST, SECOND, THIRD, DELIVER}
 use Rattle.flight.specs.declared.Flight.{Flight}
-use Rattle.flight.specs.Flights.{withReceivers, withGood, withCarried}
+use Rattle.flight.specs.Flights.{pairAt, cellAt}
 use Rattle.machine.specs.declared.Board.{Board}
 use Rattle.machine.specs.declared.Cut.the-variants.{Whole}
 use Rattle.machine.specs.declared.Call.{Call}
@@ -61,8 +61,35 @@ busySite p change = boardSite busy p (change (siteAt busy p)) 0 (tallyAt busy 0)
 abbrev pub busyTally : ℕ → ℕ → ℕ → Set → Board
 busyTally m heard has union = boardSite busy 0 (siteAt busy 0) m (record { heard = heard; has = has; union = union })
 
-abbrev pub busyFlight : (Flight → Flight) → Board
-busyFlight change = boardFlight busy (change (busy .flight))
+-- the receivers of a form, posting and sender
+abbrev pub busyTo : ℕ → ℕ → ℕ → ℕ → Board
+busyTo form m from mask =
+    boardFlight busy
+    (record {
+      masks = set (busy .flight .masks) (cellAt form m from) mask;
+      good = busy .flight .good;
+      carried = busy .flight .carried;
+    })
+
+-- those to whom a SECOND says GOOD
+abbrev pub busyGood : ℕ → ℕ → ℕ → Board
+busyGood m from mask =
+    boardFlight busy
+    (record {
+      masks = busy .flight .masks;
+      good = set (busy .flight .good) (pairAt m from) mask;
+      carried = busy .flight .carried;
+    })
+
+-- the set that a THIRD carries, its first word
+abbrev pub busyCarried : ℕ → ℕ → ℕ → Board
+busyCarried m from word =
+    boardFlight busy
+    (record {
+      masks = busy .flight .masks;
+      good = busy .flight .good;
+      carried = set (busy .flight .carried) (words * pairAt m from) word;
+    })
 
 abbrev pub busyPool : Set → Board
 busyPool pool = boardPool busy pool (busy .entries) (busy .log)
@@ -85,6 +112,12 @@ everything = ofWords (0xFFFFFFFFFFFFFFFF ∷ [])
 -- a list of postings: its count, and what stands in its first two places
 abbrev pub listOf : ℕ → ℕ → ℕ → Record
 listOf count m x = record { count = count; numbers = m ∷ x ∷ replicate 62 0 }
+
+-- 64 postings, and a record of all of them whose count is this
+abbrev pub fullRecord : ℕ → Board
+fullRecord count =
+    let b = offeredBoard 64 in
+    boardSite b 0 (siteDelivered (siteAt b 0) (record { count = count; numbers = membersOf everything })) 0 (tallyAt b 0)
 
 -- ---- the table
 
@@ -130,8 +163,8 @@ unsound =
     ∷ sound (busyNet 2 net 5 6 0) gives said false
     ∷ sound (busyNet 2 net 5 5 1) gives said false
     -- a THIRD in flight not to its owner; or to its owner and another
-    ∷ sound (busyFlight (λ flight. withReceivers flight THIRD 0 1 2)) gives said false
-    ∷ sound (busyFlight (λ flight. withReceivers flight THIRD 0 1 3)) gives said false
+    ∷ sound (busyTo THIRD 0 1 2) gives said false
+    ∷ sound (busyTo THIRD 0 1 3) gives said false
     -- more than 64 postings
     ∷ sound (offeredBoard 64) gives said true
     ∷ sound (offeredBoard 65) gives said false
@@ -155,13 +188,14 @@ unsound =
     ∷ sound (busyEntry 1 (only 3)) gives said false
     ∷ sound (busyEntry 0 (only 3)) gives said false
     -- in flight: the posting of a message; the set that a THIRD carries
-    ∷ sound (busyFlight (λ flight. withReceivers flight FIRST 3 0 1)) gives said false
-    ∷ sound (busyFlight (λ flight. withReceivers flight DELIVER 63 2 4)) gives said false
-    ∷ sound (busyFlight (λ flight. withCarried flight 0 1 (only 3))) gives said false
+    ∷ sound (busyTo FIRST 3 0 1) gives said false
+    ∷ sound (busyTo DELIVER 63 2 4) gives said false
+    ∷ sound (busyCarried 0 1 8) gives said false
     -- a list naming a posting not offered: a record; the log; a count past 64
     ∷ sound (busySite 0 (λ s. siteDelivered s (listOf 2 0 3))) gives said false
     ∷ sound (busySite 0 (λ s. siteDelivered s (listOf 2 0 255))) gives said false
-    ∷ sound (busySite 0 (λ s. siteDelivered s (listOf 65 0 1))) gives said false
+    ∷ sound (fullRecord 64) gives said true
+    ∷ sound (fullRecord 65) gives said false
     ∷ sound (busyLog (listOf 2 0 3)) gives said false
     ∷ sound (busyLog (listOf 65 0 2)) gives said false
     -- a set naming a site of n or more: those down; SECOND, GOOD heard; THIRD heard, with it
@@ -171,8 +205,8 @@ unsound =
     ∷ sound (busyTally 2 8 0 emptySet) gives said false
     ∷ sound (busyTally 2 0 8 emptySet) gives said false
     -- in flight: a receiver; a sender
-    ∷ sound (busyFlight (λ flight. withReceivers flight FIRST 2 2 8)) gives said false
-    ∷ sound (busyFlight (λ flight. withReceivers flight FIRST 2 3 1)) gives said false
+    ∷ sound (busyTo FIRST 2 2 8) gives said false
+    ∷ sound (busyTo FIRST 2 3 1) gives said false
     -- a record, the log naming one twice
     ∷ sound (busySite 0 (λ s. siteDelivered s (listOf 2 0 0))) gives said false
     ∷ sound (busyLog (listOf 2 0 0)) gives said false
@@ -198,9 +232,9 @@ unsound =
     ∷ sound (busySite 1 (λ s. siteHeard s 2 0 7)) gives said true
     ∷ sound (busyTally 2 0 7 (only 1)) gives said true
     -- messages that no step sends
-    ∷ sound (busyFlight (λ flight. withReceivers flight FIRST 2 0 7)) gives said true
-    ∷ sound (busyFlight (λ flight. withReceivers flight DELIVER 1 2 7)) gives said true
-    ∷ sound (busyFlight (λ flight. withReceivers flight THIRD 2 2 4)) gives said true
+    ∷ sound (busyTo FIRST 2 0 7) gives said true
+    ∷ sound (busyTo DELIVER 1 2 7) gives said true
+    ∷ sound (busyTo THIRD 2 2 4) gives said true
     -- Cells that hold nothing live: rows past the count, places past the end of a record and of the log
     ∷ sound (busyRow 3 (record { owner = 9; kind = 9; a = 99; b = 99; amount = 9 })) gives said true
     ∷ sound (busySite 0 (λ s. siteDelivered s (listOf 1 0 255))) gives said true
@@ -209,7 +243,7 @@ unsound =
     ∷ sound (busySite 3 (λ s. siteStepped s everything everything everything)) gives said true
     ∷ sound (busySite 6 (λ s. sitePlace s 64)) gives said true
     -- a GOOD bit and a carried set with no such message, an entry's set in neither pool nor log
-    ∷ sound (busyFlight (λ flight. withGood flight 63 6 255)) gives said true
-    ∷ sound (busyFlight (λ flight. withCarried flight 63 6 everything)) gives said true
+    ∷ sound (busyGood 63 6 255) gives said true
+    ∷ sound (busyCarried 63 6 0xFFFFFFFFFFFFFFFF) gives said true
     ∷ sound (busyEntry 2 everything) gives said true
     ∷ []

@@ -1,4 +1,4 @@
--- A call as a value, the run of any list of calls from a board, and what an accepted call names.
+-- A call as a value, the run of any list of calls from a board, quiet, and when none is left to do.
 -- Rests on Calls. The numbers of a call are unbounded; a refused call's board is passed on, and nothing is filtered or stops.
 use Prim.Native.Nat.{ℕ, _-_, _^_}
 use mathlib.Core.Path.{_≡_}
