@@ -22,36 +22,12 @@ use Rattle.site.specs.declared.Setup.{Setup}
 use Rattle.site.specs.declared.Tally.{Tally}
 use Rattle.site.specs.Sites.{sites, blankSite, blankTally, noSet, noSite, noTally}
 use Rattle.flight.specs.ArrayLaws.{zero-at}
-use Rattle.flight.specs.Flights.{pairs, cells, isCell, cellAt, pairAt, emptyFlight, inFlight, messageIn, goodTo, carriedBy, setIn, wordsFrom}
+use Rattle.flight.specs.FlightLaws.{empty-in-flight, empty-good, empty-carried}
 use Rattle.machine.specs.declared.Board.{Board}
 use Rattle.machine.specs.Boards.{freshBoard, emptyTable, siteAt, tallyAt}
 use Rattle.broadcast.specs.Machine.{World, State}
 use Rattle.broadcast.specs.Runs.{blank}
 use Rattle.agreement.proofs.Shows.{SiteShowsIn, TallyShowsIn, Shows}
-
-none-in-flight : (form m r p : ℕ) → inFlight emptyFlight form m r p ≡ false
-unfolding inFlight messageIn
-none-in-flight form m r p = rw (zero-at cells (cellAt form m r), has-bit-zero p, and-false (ltb p sites)) (and-false (isCell form m r))
-
-no-words : (k i n : ℕ) → wordsFrom (replicate k 0) i n ≡ replicate n 0
-unfolding wordsFrom
-no-words k i zero = refl
-no-words k i (suc n) = rw (zero-at k i, no-words k (suc i) n)
-
-none-carried : (m r x : ℕ) → has (carriedBy emptyFlight m r) x ≡ false
-unfolding setIn
-none-carried m r x = go (ltb (pairAt m r) pairs)
-  where
-    go : (v : Bool) → has (cond v (ofWords (wordsFrom (replicate (words * pairs) 0) (words * pairAt m r) words)) emptySet) x ≡ false
-    go true = ap (λ (ws : List ℕ). has (ofWords ws) x) (no-words (words * pairs) (words * pairAt m r) words) ∙ member-empty words x
-    go false = member-empty words x
-
-none-good : (m r p : ℕ) → hasBit (goodTo emptyFlight m r) p ≡ false
-none-good m r p = go (ltb (pairAt m r) pairs)
-  where
-    go : (v : Bool) → hasBit (cond v (getD (replicate pairs 0) (pairAt m r) 0) 0) p ≡ false
-    go true = rw (zero-at pairs (pairAt m r)) (has-bit-zero p)
-    go false = has-bit-zero p
 
 -- a blank set, or none
 no-set : (m x : ℕ) → has (getD (replicate capacity emptySet) m noSet) x ≡ false
@@ -97,12 +73,12 @@ module _ (w : World) (setup : Setup) (few : w .n ≤ sites) where
     each-site = λ p lt. rw (getD-replicate sites p blankSite noSite (omega (arith, few, lt))) (blank-site p);
     each-tally = blank-tally;
     flight = unfold blank in record {
-      firsts-is = λ m r p la lb. sym (none-in-flight 0 m r p);
-      seconds-is = λ m r p la lb. sym (none-in-flight 1 m r p);
-      good-is = λ m r p la lb. sym (none-good m r p);
-      thirds-is = λ m r la. sym (none-in-flight 2 m r (w .owner m));
-      carried-is = λ m r x la. sym (none-carried m r x);
-      delivers-is = λ m r p la lb. sym (none-in-flight 3 m r p);
+      firsts-is = λ m r p la lb. sym (empty-in-flight 0 m r p);
+      seconds-is = λ m r p la lb. sym (empty-in-flight 1 m r p);
+      good-is = λ m r p la lb. sym (empty-good m r p);
+      thirds-is = λ m r la. sym (empty-in-flight 2 m r (w .owner m));
+      carried-is = λ m r x la. sym (ap (λ (v : Set). has v x) (empty-carried m r) ∙ member-empty words x);
+      delivers-is = λ m r p la lb. sym (empty-in-flight 3 m r p);
     };
     oracle = unfold blank in record {
       pool-is = λ m. sym (member-empty words m);

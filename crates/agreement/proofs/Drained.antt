@@ -31,6 +31,7 @@ use Rattle.invariants.proofs.Start.{fresh-good, start-taken}
 use Rattle.agreement.specs.Agreement.{ceilingOf, BooksAgree, BooksAgreeAfter}
 use Rattle.agreement.specs.Drains.{Item, call, drain, eventsOf, callsOf, boardAfter, runningAll, expanded, BooksAgreeAfterAll, DrainSays}
 use Rattle.agreement.proofs.Nexts.{not-none, next-accepted, next-acts, next-none, quiet-next}
+use Rattle.agreement.proofs.Simulated.{run-more}
 use Rattle.agreement.proofs.Proved.{agree-fresh, run-append, offers-few}
 
 -- ---- one event more
@@ -86,10 +87,6 @@ accepted-append b (c ∷ l) r = go (accepted (taking b c .answer)) (acceptedCall
     go true a d e = ap (λ (k : List Call). c ∷ k) e
     go false a d e = e
 
-run-cons : (b : Board) (c : Call) (l : List Call) → running b (c ∷ l) ≡ running (taking b c .board) l
-unfolding running
-run-cons b c l = refl
-
 accept-cons : (b : Board) (c : Call) (l : List Call) → accepted (taking b c .answer) ≡ true → acceptedCalls b (c ∷ l) ≡ c ∷ acceptedCalls (taking b c .board) l
 unfolding acceptedCalls
 accept-cons b c l h = rw h
@@ -122,7 +119,7 @@ done-quiet left limit count b q = record { runs = refl; all = refl; acts = refl;
 done-more : (left count : ℕ) (b : Board) (c : Call) (d : Drained) (l : List Call) → accepted (taking b c .answer) ≡ true → isAction c ≡ true
     → Does (taking b c .board) left (count + 1) d l → Does b (suc left) count d (c ∷ l)
 done-more left count b c d l ok act i = record {
-  runs = i .runs ∙ sym (run-cons b c l);
+  runs = i .runs ∙ sym (run-more b c l);
   all = accept-cons b c l ok ∙ ap (λ (k : List Call). c ∷ k) (i .all);
   acts = action-one c l act ∙ ap suc (i .acts);
   counts = omega (arith, i .counts);

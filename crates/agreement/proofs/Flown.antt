@@ -37,7 +37,7 @@ regroup false v t = refl
 pub at3-is : (m r p x a b : ℕ) → at3 m r p x a b ≡ ((eqb x m && eqb a r) && eqb b p)
 at3-is m r p x a b = rw (eqb-turned m x, eqb-turned r a, eqb-turned p b) (regroup (eqb x m) (eqb a r) (eqb b p))
 
-cond-and : (c o : Bool) → cond c false o ≡ (o && not c)
+pub cond-and : (c o : Bool) → cond c false o ≡ (o && not c)
 cond-and true true = refl
 cond-and true false = refl
 cond-and false o = sym (and-true o)

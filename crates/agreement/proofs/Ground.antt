@@ -10,6 +10,7 @@ use native.Mathlib.Decide.{ℕ-discrete}
 use lib.Dec.{eqb, ltb}
 use lib.Count.{ones}
 use lib.ListN.{length, take}
+use lib.Seq.{take-nil}
 use borrow.Author.Tests.{eq-eqb, ne-eqb, eqb-true}
 use Rattle.sets.specs.declared.Set.{Set}
 use Rattle.sets.specs.Truth.{test, never, not-so}
@@ -47,6 +48,10 @@ use Rattle.agreement.proofs.Shows.{SiteShowsIn, TallyShowsIn, FlightSho
 pub out-same : (step : Step) (cut : Cut) → sendsOut step cut ≡ outOf (step .sends) cut
 out-same step Whole = refl
 out-same step (After j) = refl
+
+pub nothing-out : (step : Step) (cut : Cut) → step .sends ≡ [] → sendsOut step cut ≡ []
+nothing-out step Whole e = e
+nothing-out step (After j) e = ap (λ (l : List Send). take j l) e ∙ take-nil j
 
 module _ (last : Board) (g : Good last) where
   abbrev pub W : World

@@ -52,7 +52,7 @@ use Rattle.agreement.proofs.Flown.{Flown, at2-is, at3-is, take-is, flow
 use Rattle.agreement.proofs.Shows.{SiteShowsIn, TallyShowsIn, FlightShowsIn, OracleShows, Shows}
 use Rattle.agreement.proofs.Delivered.{delivered-own, delivered-other}
 use Rattle.agreement.proofs.OnFirst.{after-none}
-use Rattle.agreement.proofs.Ground.{W, Seen, out-same, same-n, few-sites, may-cut, is-up, down-site, down-tally, down-flight, down-oracle, down-offered, down-up, together}
+use Rattle.agreement.proofs.Ground.{W, Seen, nothing-out, out-same, same-n, few-sites, may-cut, is-up, down-site, down-tally, down-flight, down-oracle, down-offered, down-up, together}
 
 module _ (last : Board) (g : Good last) (b : Board) (s : State) (k : Seen last g b s) (m r p : ℕ) (cut : Cut) (t : ReceiptTaken b DELIVER m r p cut) where
   abbrev w : World
@@ -165,13 +165,6 @@ module _ (last : Board) (g : Good last) (b : Board) (s : State) (k : Seen last g
   none-sent : (o : Bool) (y a : ℕ) → o ≡ cond (at2 m p y a && false) true o
   none-sent o y a = sym (ap (λ (c : Bool). cond c true o) (and-false (at2 m p y a)))
 
-  nothing-out : (step : Step) → step .sends ≡ [] → sendsOut step cut ≡ []
-  nothing-out step e = go cut
-    where
-      go : (cut : Cut) → sendsOut step cut ≡ []
-      go Whole = e
-      go (After j) = ap (λ (l : List Send). take j l) e ∙ take-nil j
-
   abbrev castNone : Cast (takingOut (b .flight) DELIVER m r p) p DELIVER m false emptySet [] (λ v. false)
   castNone = cast-none (takingOut (b .flight) DELIVER m r p) taken p m DELIVER false emptySet (λ v. false) (λ v lt. refl)
 
@@ -180,7 +173,7 @@ module _ (last : Board) (g : Good last) (b : Board) (s : State) (k : Seen last g
 
   later-shows : Shows w (carriedOut (boardFlight b (takingOut (b .flight) DELIVER m r p)) p m (noStep site (tallyAt b m)) cut) (downIf w tc (takeDeliver w s m r p) p)
   later-shows = deliver-together [] (λ v. false) castNone refl s refl refl refl (λ y a v. none-sent (s .delivers .sent y a v) y a)
-      (noStep site (tallyAt b m)) refl (nothing-out (noStep site (tallyAt b m)) refl) no-entry (λ y. refl) (λ q. refl) refl
+      (noStep site (tallyAt b m)) refl (nothing-out (noStep site (tallyAt b m)) cut refl) no-entry (λ y. refl) (λ q. refl) refl
       (rw (after-none (noStep site (tallyAt b m)) cut refl) shown) (λ q lq d. k .shows .each-site q lq)
 
   -- ---- the first receipt
@@ -200,7 +193,7 @@ module _ (last : Board) (g : Good last) (b : Board) (s : State) (k : Seen last g
   owner-shows = deliver-together [] (λ v. false) castNone refl (deliverAt w (get w s m p) p (m ∷ []) tc)
       (unfold deliverAt get in refl) (unfold deliverAt get in refl) (unfold deliverAt get in refl)
       (λ y a v. unfold deliverAt get in none-sent (s .delivers .sent y a v) y a)
-      (firstStep []) refl (nothing-out (firstStep []) refl) no-entry (λ y. unfold deliverAt get in refl) (λ q. unfold deliverAt get in refl) (unfold deliverAt get in refl)
+      (firstStep []) refl (nothing-out (firstStep []) cut refl) no-entry (λ y. unfold deliverAt get in refl) (λ q. unfold deliverAt get in refl) (unfold deliverAt get in refl)
       (got-own s [] shown) (λ q lq d. got-other s q d (k .shows .each-site q lq))
 
   abbrev sends : List Send

@@ -30,13 +30,9 @@ use Rattle.broadcast.specs.Machine.{World, State, down}
 use Rattle.broadcast.specs.Machine as theory
 use Rattle.broadcast.specs.Runs.{Event, Allowed, does, onOrder}
 use Rattle.agreement.proofs.Casts.{eqb-turned}
+use Rattle.agreement.proofs.Flown.{cond-and}
 use Rattle.agreement.proofs.Shows.{OracleShows, Shows}
 use Rattle.agreement.proofs.Ground.{W, Seen, is-up, lost-ones, same-n}
-
-cond-and : (c o : Bool) → cond c false o ≡ (o && not c)
-cond-and true true = refl
-cond-and true false = refl
-cond-and false o = sym (and-true o)
 
 module _ (last : Board) (g : Good last) (b : Board) (s : State) (k : Seen last g b s) where
   abbrev w : World

@@ -45,7 +45,7 @@ use Rattle.broadcast.specs.Runs.{Event, Allowed, does, onRead, nextAt}
 use Rattle.agreement.proofs.Casts.{cutBy}
 use Rattle.agreement.proofs.Delivered.{delivered-own, delivered-other}
 use Rattle.agreement.proofs.Shows.{SiteShows, SiteShowsIn, TallyShowsIn, FlightShowsIn, OracleShows, Shows}
-use Rattle.agreement.proofs.Ground.{W, Seen, same-n, may-cut, is-up, down-site, down-tally, down-flight, down-oracle, down-offered, down-up, together}
+use Rattle.agreement.proofs.Ground.{W, Seen, nothing-out, same-n, may-cut, is-up, down-site, down-tally, down-flight, down-oracle, down-offered, down-up, together}
 
 -- the members of a set, as the theory lists them
 members-below : (q : ℕ → Bool) (ws : List ℕ) → ((x : ℕ) → q x ≡ member ws x) → (n : ℕ) → lists.members q n ≡ membersBelow ws n
@@ -134,13 +134,6 @@ module _ (last : Board) (g : Good last) (b : Board) (s : State) (k : Seen last g
   abbrev stepIs : Step
   stepIs = record { site = sitePlace (siteAt b p) (siteAt b p .place + 1); tally = tallyAt b m; sends = []; delivers = membersOf (entryAt b m) ++ (m ∷ []) }
 
-  nothing-out : sendsOut stepIs cut ≡ []
-  nothing-out = go cut
-    where
-      go : (cut : Cut) → sendsOut stepIs cut ≡ []
-      go Whole = refl
-      go (After j) = take-nil j
-
   site-shape : SiteShape (siteAt b p)
   site-shape = k .good .shape .each-site p hp
 
@@ -164,8 +157,8 @@ module _ (last : Board) (g : Good last) (b : Board) (s : State) (k : Seen last g
       (advance-other w s p q (siteAt b q) d (k .shows .each-site q lq))))
       (down-tally w one p tc m (tallyAt b m) (unfold deliverAt advance in k .shows .each-tally m))
       (λ x d. down-tally w one p tc x (tallyAt b x) (unfold deliverAt advance in k .shows .each-tally x))
-      (rw nothing-out (unfold sendingAll in down-flight w one p tc (b .flight) (unfold deliverAt advance in k .shows .flight)))
-      (rw nothing-out (unfold pooling entering in down-oracle w one p tc (b .pool) (b .entries) (b .log) (unfold deliverAt advance in k .shows .oracle)))
+      (rw (nothing-out stepIs cut refl) (unfold sendingAll in down-flight w one p tc (b .flight) (unfold deliverAt advance in k .shows .flight)))
+      (rw (nothing-out stepIs cut refl) (unfold pooling entering in down-oracle w one p tc (b .pool) (b .entries) (b .log) (unfold deliverAt advance in k .shows .oracle)))
 
   pub read-shows : Shows w (carriedOut b p m (readStep b p) cut) (does w s (Event.read p tc))
   unfolding onRead onEntry

@@ -57,7 +57,7 @@ use Rattle.agreement.proofs.Entries.{NoEntry, none-out}
 use Rattle.agreement.proofs.Seen.{cond-or, hear-own, hear-other, see-own, see-other, step-own, step-other}
 use Rattle.agreement.proofs.Flown.{Flown, at2-is, at3-is, flown-none, take-is, send-is, flown-same, flown-taken, flown-sent, Moves, flown-shows}
 use Rattle.agreement.proofs.Shows.{SiteShowsIn, TallyShowsIn, FlightShowsIn, OracleShows, Shows}
-use Rattle.agreement.proofs.Ground.{W, Seen, out-same, same-n, few-sites, may-cut, is-up, down-site, down-tally, down-flight, down-oracle, down-offered, down-up, together}
+use Rattle.agreement.proofs.Ground.{W, Seen, nothing-out, out-same, same-n, few-sites, may-cut, is-up, down-site, down-tally, down-flight, down-oracle, down-offered, down-up, together}
 use Rattle.agreement.proofs.OnFirst.{after-none}
 
 module _ (last : Board) (g : Good last) (b : Board) (s : State) (k : Seen last g b s) (safe : Safe (W last g) s)
@@ -173,18 +173,11 @@ module _ (last : Board) (g : Good last) (b : Board) (s : State) (k : Seen last g
       (λ q lq d. down-site w x p tc q (siteAt b q) (unfold takeSecond in others q lq d))
       (down-tally w x p tc m (tallyAt b m) (unfold takeSecond in k .shows .each-tally m))
       (λ v d. down-tally w x p tc v (tallyAt b v) (unfold takeSecond in k .shows .each-tally v))
-      (rw (nothing-out new) (down-flight w x p tc _ (flown-shows w (few-sites last g b s k) (b .flight) (k .good .shape .flight) SECOND m r p below hr hp
+      (rw (nothing-out (noStep new (tallyAt b m)) cut refl) (down-flight w x p tc _ (flown-shows w (few-sites last g b s k) (b .flight) (k .good .shape .flight) SECOND m r p below hr hp
       THIRD false emptySet [] (λ v. false) taken castNone (omega arith) (empty-shape words)
       (s .firsts) (s .seconds .sent) (s .seconds .good) (s .thirds .sent) (s .thirds .carried) (s .delivers .sent)
       (x .firsts) (x .seconds .sent) (x .seconds .good) (x .thirds .sent) (x .thirds .carried) (x .delivers .sent) (gone-moves heard agreed) (k .shows .flight))))
-      (rw (nothing-out new) (unfold pooling entering in down-oracle w x p tc (b .pool) (b .entries) (b .log) (unfold takeSecond in k .shows .oracle)))
-    where
-      nothing-out : (new : Site) → sendsOut (noStep new (tallyAt b m)) cut ≡ []
-      nothing-out new = go cut
-        where
-          go : (cut : Cut) → sendsOut (noStep new (tallyAt b m)) cut ≡ []
-          go Whole = refl
-          go (After j) = take-nil j
+      (rw (nothing-out (noStep new (tallyAt b m)) cut refl) (unfold pooling entering in down-oracle w x p tc (b .pool) (b .entries) (b .log) (unfold takeSecond in k .shows .oracle)))
 
   -- ---- heard
 

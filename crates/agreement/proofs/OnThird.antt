@@ -58,7 +58,7 @@ use Rattle.agreement.proofs.Entries.{NoEntry, none-out, none-all}
 use Rattle.agreement.proofs.Seen.{cond-or, finish-own, finish-other}
 use Rattle.agreement.proofs.Flown.{Flown, at2-is, send-is, flown-same, flown-taken, flown-sent, flown-none, Moves, flown-shows}
 use Rattle.agreement.proofs.Shows.{SiteShowsIn, TallyShowsIn, FlightShowsIn, OracleShows, Shows}
-use Rattle.agreement.proofs.Ground.{W, Seen, out-same, same-n, few-sites, may-cut, is-up, down-site, down-tally, down-flight, down-oracle, down-offered, down-up, together}
+use Rattle.agreement.proofs.Ground.{W, Seen, nothing-out, out-same, same-n, few-sites, may-cut, is-up, down-site, down-tally, down-flight, down-oracle, down-offered, down-up, together}
 use Rattle.agreement.proofs.OnFirst.{after-none}
 
 module _ (last : Board) (g : Good last) (b : Board) (s : State) (k : Seen last g b s) (safe : Safe (W last g) s)
@@ -271,26 +271,19 @@ module _ (last : Board) (g : Good last) (b : Board) (s : State) (k : Seen last g
   abbrev castNone : Cast (takingOut (b .flight) THIRD m r p) p DELIVER m false emptySet [] (λ v. false)
   castNone = cast-none (takingOut (b .flight) THIRD m r p) taken p m DELIVER false emptySet (λ v. false) none-reached
 
-  nothing-out : (new : Site) (y : Tally) → sendsOut (noStep new y) cut ≡ []
-  nothing-out new y = go cut
-    where
-      go : (cut : Cut) → sendsOut (noStep new y) cut ≡ []
-      go Whole = refl
-      go (After j) = take-nil j
-
   none-sent : (o : Bool) (y a v : ℕ) → o ≡ (o || (eqb y m && eqb a p) && false)
   none-sent o y a v = sym (ap (λ (c : Bool). o || c) (and-false (eqb y m && eqb a p)) ∙ or-false o)
 
   late-shows : Shows w (carriedOut (boardFlight b (takingOut (b .flight) THIRD m r p)) p m (noStep site tally) cut) (downIf w tc (takeThird w s m r) (w .owner m))
   late-shows = third-together false emptySet [] (λ v. false) castNone (empty-shape words) s refl refl refl refl (λ y a v. none-sent (s .delivers .sent y a v) y a v)
-      (noStep site tally) site refl refl (nothing-out site tally) (λ y. refl) (λ q. refl) shown (λ q lq d. k .shows .each-site q lq) tallied-shown (λ y d. k .shows .each-tally y)
+      (noStep site tally) site refl refl (nothing-out (noStep site tally) cut refl) (λ y. refl) (λ q. refl) shown (λ q lq d. k .shows .each-site q lq) tallied-shown (λ y d. k .shows .each-tally y)
       (unfold pooling entering in k .shows .oracle)
 
   heard-shows : hasBit (tally .heard) r ≡ false
       → Shows w (carriedOut (boardFlight b (takingOut (b .flight) THIRD m r p)) p m (noStep site after) cut) (downIf w tc (takeThird w one m r) (w .owner m))
   heard-shows fresh = third-together false emptySet [] (λ v. false) castNone (empty-shape words) one (unfold hearThird in refl) (unfold hearThird in refl) (unfold hearThird in refl) (unfold hearThird in refl)
       (λ y a v. unfold hearThird in none-sent (s .delivers .sent y a v) y a v)
-      (noStep site after) site refl refl (nothing-out site after) (λ y. unfold hearThird in refl) (λ q. unfold hearThird in refl) (unfold hearThird in shown) (λ q lq d. unfold hearThird in k .shows .each-site q lq)
+      (noStep site after) site refl refl (nothing-out (noStep site after) cut refl) (λ y. unfold hearThird in refl) (λ q. unfold hearThird in refl) (unfold hearThird in shown) (λ q lq d. unfold hearThird in k .shows .each-site q lq)
       (heard-tally fresh) (other-tally fresh) (unfold pooling entering hearThird in k .shows .oracle)
 
   -- ---- the (n - f)th

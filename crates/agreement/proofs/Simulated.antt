@@ -85,7 +85,7 @@ run-none : (b : Board) → running b [] ≡ b
 unfolding running
 run-none b = refl
 
-run-more : (b : Board) (c : Call) (l : List Call) → running b (c ∷ l) ≡ running (taking b c .board) l
+pub run-more : (b : Board) (c : Call) (l : List Call) → running b (c ∷ l) ≡ running (taking b c .board) l
 unfolding running
 run-more b c l = refl
 
