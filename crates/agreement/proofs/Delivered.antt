@@ -16,7 +16,7 @@ use Rattle.site.specs.Sends.{Step}
 use Rattle.site.specs.Steps.{deliveringAll}
 use Rattle.machine.specs.declared.Cut.{Cut}
 use Rattle.machine.specs.declared.Cut.the-variants.{Whole, After}
-use Rattle.invariants.proofs.Sound.{RecordSound}
+use Rattle.machine.proofs.SoundFacts.{RecordSound}
 use Rattle.invariants.proofs.SiteSound.{AllOffered}
 use Rattle.invariants.proofs.CarriedOut.{siteAfter}
 use Rattle.broadcast.specs.Lists.{deliverAll}

@@ -24,8 +24,8 @@ use Rattle.drain.specs.declared.Ending.{Ending}
 use Rattle.drain.specs.declared.Ending.the-variants.{Quiet, Spent}
 use Rattle.drain.specs.declared.Drained.{Drained}
 use Rattle.drain.specs.Drain.{Next, none, event, nextEvent, draining, drained}
-use Rattle.invariants.proofs.SoundTest.{facts-sound}
-use Rattle.invariants.proofs.Kept.{setup-sites}
+use Rattle.machine.proofs.SoundTest.{facts-sound}
+use Rattle.machine.proofs.Facts.{setup-sites}
 use Rattle.invariants.proofs.Reached.{Good, good-sites, call-good, run-good}
 use Rattle.invariants.proofs.Start.{fresh-good, start-taken}
 use Rattle.agreement.specs.Agreement.{ceilingOf, BooksAgree, BooksAgreeAfter}

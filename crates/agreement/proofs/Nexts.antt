@@ -30,7 +30,7 @@ use Rattle.drain.specs.Drain.{Next, none, event, nextRead, nextOrder, nextAfter
 use Rattle.invariants.proofs.Judged.{receipt-taken, order-taken, read-taken}
 use Rattle.invariants.proofs.FlightSound.{bit-below}
 use Rattle.invariants.proofs.Quiet.{up-bit, receive-accepted, order-accepted, read-accepted, quiet-left, left-quiet}
-use Rattle.invariants.proofs.Reached.{Good, good-flight}
+use Rattle.invariants.proofs.Reached.{GoodIf, good-flight}
 use Rattle.agreement.specs.Drains.{isWhole}
 
 event-same : {c d : Call} → event c ≡ event d → c ≡ d
@@ -48,7 +48,7 @@ not-none e = never (ap isEvent e) refl
 abbrev Fine : Board → Call → Type 0
 Fine b c = (accepted (taking b c .answer) ≡ true) × (isWhole c ≡ true) × (isAction c ≡ true)
 
-module _ (b : Board) (g : Good b) where
+module _ {clean : Bool} (b : Board) (g : GoodIf clean b) where
   up-not : (p : ℕ) → isUp b p ≡ true → isDown b p ≡ false
   up-not p h = go (isDown b p) (and-right (ltb p (b .setup .n)) (not (isDown b p)) h)
     where

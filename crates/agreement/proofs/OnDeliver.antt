@@ -33,8 +33,8 @@ use Rattle.machine.specs.declared.Cut.{Cut}
 use Rattle.machine.specs.declared.Cut.the-variants.{Whole, After}
 use Rattle.machine.specs.Boards.{siteAt, tallyAt, isDown, boardFlight}
 use Rattle.machine.specs.Calls.{carriedOut, receiptOf, pooling, entering, isCut}
-use Rattle.invariants.proofs.Shapes.{SiteShape}
-use Rattle.invariants.proofs.Sound.{SiteSound}
+use Rattle.machine.proofs.Shapes.{SiteShape}
+use Rattle.machine.proofs.SoundFacts.{SiteSound}
 use Rattle.invariants.proofs.Judged.{Acts, ReceiptTaken}
 use Rattle.invariants.proofs.CarriedOut.{sendsOut, siteAfter}
 use Rattle.invariants.proofs.FlightSound.{MessageSound}
@@ -42,7 +42,7 @@ use Rattle.invariants.proofs.Reached.{Good, good-flight, good-sites}
 use Rattle.broadcast.specs.Lists.{deliverAll}
 use Rattle.broadcast.specs.Machine.{World, State, at2, at3, goes, lasts, sendDeliver, takeDeliver, get, deliverAt, down, downIf}
 use Rattle.broadcast.specs.Machine as theory
-use Rattle.broadcast.specs.Runs.{Event, Allowed, does, Receipt, relay}
+use Rattle.broadcast.specs.Runs.{Event, Allowed, does, Receipt, relay, arrive}
 use Rattle.broadcast.specs.Runs as runs
 use Rattle.agreement.proofs.World.{worldOf, Earlier, owner-same}
 use Rattle.agreement.proofs.Casts.{Cast, outOf, cutBy, cast-none, cast-others, eqb-turned}
@@ -203,7 +203,7 @@ module _ (last : Board) (g : Good last) (b : Board) (s : State) (k : Seen last g
   reaches v = not (eqb p v) && (ltb v (b .setup .n) && goes tc v)
 
   abbrev relayed : State
-  relayed = sendDeliver w s m p (λ v. not (eqb p v) && theory.toAll w tc v)
+  relayed = sendDeliver w s m p (theory.toOthers w p tc)
 
   relay-shows : Shows w (carriedOut (boardFlight b (takingOut (b .flight) DELIVER m r p)) p m (firstStep (toOthers (b .setup .n) p (λ to. deliver m to))) cut)
       (downIf w tc (takeDeliver w (deliverAt w (get w relayed m p) p (m ∷ []) tc) m r p) p)
@@ -220,7 +220,7 @@ module _ (last : Board) (g : Good last) (b : Board) (s : State) (k : Seen last g
       (λ q lq d. got-other relayed q d (unfold sendDeliver in k .shows .each-site q lq))
 
   pub deliver-shows : Shows w (carriedOut (boardFlight b (takingOut (b .flight) DELIVER m r p)) p m (onDeliver (b .setup) (b .table) site (tallyAt b m) p m) cut) (does w s (Event.deliver m r p tc))
-  unfolding runs.onDeliver onDeliver
+  unfolding runs.onDeliver onDeliver arrive relay
   deliver-shows = go (has (site .got) m) (s .delivers .got p m) (shown .got-is m)
     where
       own : (u v : Bool) → u ≡ v
@@ -233,7 +233,7 @@ module _ (last : Board) (g : Good last) (b : Board) (s : State) (k : Seen last g
 
       go : (u v : Bool) → v ≡ u
           → Shows w (carriedOut (boardFlight b (takingOut (b .flight) DELIVER m r p)) p m (cond u (noStep site (tallyAt b m)) (firstStep (cond (eqb p (ownerOf (b .table) m)) [] (toOthers (b .setup .n) p (λ to. deliver m to))))) cut)
-          (downIf w tc (takeDeliver w (cond v s (deliverAt w (get w (relay w s m p tc) m p) p (m ∷ []) tc)) m r p) p)
+          (downIf w tc (takeDeliver w (cond v s (arrive w s m p tc)) m r p) p)
       go true true e = later-shows
       go false false e = own (eqb p (ownerOf (b .table) m)) (eqb p (w .owner m)) (ap (λ (o : ℕ). eqb p o) (sym owner-is))
       go true false e = absurd (never e refl)

@@ -30,8 +30,8 @@ use Rattle.machine.specs.declared.Cut.{Cut}
 use Rattle.machine.specs.declared.Cut.the-variants.{Whole, After}
 use Rattle.machine.specs.Boards.{siteAt, tallyAt, isDown, boardFlight}
 use Rattle.machine.specs.Calls.{carriedOut, receiptOf, isCut}
-use Rattle.invariants.proofs.Shapes.{SiteShape}
-use Rattle.invariants.proofs.Sound.{Offers}
+use Rattle.machine.proofs.Shapes.{SiteShape}
+use Rattle.machine.proofs.SoundFacts.{Offers}
 use Rattle.invariants.proofs.SiteSound.{offers-with}
 use Rattle.invariants.proofs.Judged.{Acts, ReceiptTaken}
 use Rattle.invariants.proofs.CarriedOut.{sendsOut, siteAfter}

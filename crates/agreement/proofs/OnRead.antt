@@ -32,8 +32,8 @@ use Rattle.machine.specs.declared.Cut.the-variants.{Whole, After}
 use Rattle.machine.specs.Boards.{siteAt, tallyAt, entryAt, isDown}
 use Rattle.machine.specs.Calls.{carriedOut, pooling, entering}
 use Rattle.invariants.proofs.Judged.{ReadTaken, readStep, nextLogged}
-use Rattle.invariants.proofs.Shapes.{SiteShape}
-use Rattle.invariants.proofs.Sound.{SiteSound}
+use Rattle.machine.proofs.Shapes.{SiteShape}
+use Rattle.machine.proofs.SoundFacts.{SiteSound}
 use Rattle.invariants.proofs.SiteSound.{AllOffered}
 use Rattle.invariants.proofs.StepSound.{all-offered}
 use Rattle.invariants.proofs.CarriedOut.{sendsOut, siteAfter}

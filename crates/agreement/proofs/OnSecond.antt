@@ -37,8 +37,8 @@ use Rattle.machine.specs.declared.Cut.{Cut}
 use Rattle.machine.specs.Boards.{siteAt, tallyAt, isDown, boardFlight}
 use Rattle.machine.specs.declared.Cut.the-variants.{Whole, After}
 use Rattle.machine.specs.Calls.{carriedOut, receiptOf, pooling, entering, isCut}
-use Rattle.invariants.proofs.Shapes.{SiteShape}
-use Rattle.invariants.proofs.Sound.{Offers, SiteSound}
+use Rattle.machine.proofs.Shapes.{SiteShape}
+use Rattle.machine.proofs.SoundFacts.{Offers, SiteSound}
 use Rattle.invariants.proofs.SiteSound.{offers-with, offers-withIf, shape-withIf}
 use Rattle.invariants.proofs.Judged.{Acts, ReceiptTaken}
 use Rattle.invariants.proofs.CarriedOut.{sendsOut, siteAfter}
@@ -398,7 +398,7 @@ module _ (last : Board) (g : Good last) (b : Board) (s : State) (k : Seen last g
         no-entry = none-out (third m to load ∷ []) cut (refl, tt)
 
   pub second-shows : Shows w (carriedOut (boardFlight b (takingOut (b .flight) SECOND m r p)) p m (onSecond (b .setup) (b .table) site (tallyAt b m) m r good-said) cut) (does w s (second m r p tc))
-  unfolding runs.onSecond onSecond
+  unfolding runs.onSecond onSecond countSecond
   second-shows = go late (lateSecond w s m r p) refl late-is
     where
       stepIs : Bool → Bool → Step

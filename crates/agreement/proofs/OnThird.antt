@@ -39,8 +39,8 @@ use Rattle.machine.specs.declared.Cut.{Cut}
 use Rattle.machine.specs.declared.Cut.the-variants.{Whole, After}
 use Rattle.machine.specs.Boards.{siteAt, tallyAt, isDown, boardFlight}
 use Rattle.machine.specs.Calls.{carriedOut, receiptOf, pooling, entering, isCut}
-use Rattle.invariants.proofs.Shapes.{SiteShape}
-use Rattle.invariants.proofs.Sound.{SiteSound, TallySound}
+use Rattle.machine.proofs.Shapes.{SiteShape}
+use Rattle.machine.proofs.SoundFacts.{SiteSound, TallySound}
 use Rattle.invariants.proofs.Judged.{Acts, ReceiptTaken}
 use Rattle.invariants.proofs.CarriedOut.{sendsOut, siteAfter}
 use Rattle.invariants.proofs.FlightSound.{MessageSound}
@@ -394,7 +394,7 @@ module _ (last : Board) (g : Good last) (b : Board) (s : State) (k : Seen last g
         (slow-oracle e)
 
   pub third-shows : Shows w (carriedOut (boardFlight b (takingOut (b .flight) THIRD m r p)) p m (onThird (b .setup) site tally m r carried) cut) (does w s (third m r tc))
-  unfolding runs.onThird onThird stepThird
+  unfolding runs.onThird onThird stepThird countThird conclude
   third-shows = go late (lateThird w s m r) refl late-is
     where
       last-now : Bool

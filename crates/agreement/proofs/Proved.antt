@@ -31,7 +31,7 @@ use Rattle.machine.specs.Calls.{starting}
 use Rattle.machine.specs.Runs.{accepted, running, taking, NothingLeft, isQuiet}
 use Rattle.machine.specs.History.{acceptedCalls, offers, orders, broughtDown, naming, actions}
 use Rattle.machine.specs.Figures.{recordOf, figuresOf}
-use Rattle.invariants.proofs.Kept.{setup-sites}
+use Rattle.machine.proofs.Facts.{setup-sites}
 use Rattle.invariants.proofs.History.{Done}
 use Rattle.invariants.proofs.Quiet.{left-quiet, quiet-flight, quiet-pool, quiet-place}
 use Rattle.invariants.proofs.Reached.{Good, run-good}

@@ -29,8 +29,8 @@ use Rattle.posting.specs.RecordLaws.{Places, numbers-append}
 use Rattle.site.specs.declared.Site.{Site}
 use Rattle.site.specs.Sites.{heardFor, goodFor, plus, plusIf, siteSeen, siteHeard, siteStepped, siteFinished, siteGot, sitePlace, siteDelivered}
 use Rattle.site.specs.Steps.{delivering, deliveringAll}
-use Rattle.invariants.proofs.Shapes.{SiteShape}
-use Rattle.invariants.proofs.Sound.{RecordSound}
+use Rattle.machine.proofs.Shapes.{SiteShape}
+use Rattle.machine.proofs.SoundFacts.{RecordSound}
 use Rattle.invariants.proofs.SiteSound.{AllOffered, delivering-sound, delivering-places}
 use Rattle.invariants.proofs.Room.{record-room}
 use Rattle.broadcast.specs.Lists.{mem, deliverAll}

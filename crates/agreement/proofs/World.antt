@@ -16,9 +16,9 @@ use Rattle.site.specs.declared.Setup.{Setup}
 use Rattle.site.specs.Steps.{ownerOf}
 use Rattle.machine.specs.declared.Board.{Board}
 use Rattle.machine.specs.Soundness.{setupOk}
-use Rattle.invariants.proofs.Sound.{of-all, Sound}
+use Rattle.machine.proofs.SoundFacts.{of-all, Sound}
 use Rattle.invariants.proofs.Grow.{Grows}
-use Rattle.invariants.proofs.Kept.{setup-sites}
+use Rattle.machine.proofs.Facts.{setup-sites}
 use Rattle.invariants.proofs.Reached.{Good}
 use Rattle.broadcast.specs.Machine.{World}
 

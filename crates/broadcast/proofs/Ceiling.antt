@@ -4,23 +4,24 @@
 use Prim.Native.Nat.{ℕ, zero, suc, _+_, _*_, _-_, _<_, _≤_}
 use mathlib.Core.Path.{_≡_, refl, sym, ap, _∙_}
 use mathlib.Core.Logic.{inl, inr}
-use mathlib.Core.Bool.{Bool, true, false, cond, not, _&&_, _||_}
+use mathlib.Core.Bool.{Bool, true, false, cond, not}
 use mathlib.Core.List.{List, [], _∷_}
 use native.Mathlib.Omega.{arith}
 use native.Mathlib.Nat.{add-mul, mul-suc, suc-mul}
 use lib.Dec.{eqb, leb}
 use lib.ListN.{length}
 use Rattle.broadcast.specs.Lists.{In, mem}
-use Rattle.broadcast.specs.Counts.{bit, sum, count, majority}
-use Rattle.broadcast.specs.Machine.{World, State, Cut, whole, part, at2, toAll, downIf, sendFirst, takeFirst, see, sendSecond, hearSecond, takeSecond, step, sendThird, hearThird, takeThird, finish, sendDeliver, enterPool, takeDeliver, get, deliverAt, advance, entryOf}
-use Rattle.broadcast.specs.Runs.{heardAt, heardOf, lateSecond, lateThird, onOffer, onFirst, onSecond, onThird, onDeliver, onOrder, onRead, countSecond, countThird, conclude, relay, nextAt, Receipt, Event, offer, first, second, third, deliver, order, read, crash, Allowed, does, blank, Reached, start, next, names, spent}
+use Rattle.broadcast.specs.Counts.{bit, sum, count}
+use Rattle.broadcast.specs.Machine.{World, State, Cut, whole, part, downIf, sendFirst, takeFirst, see, sendSecond, hearSecond, takeSecond, hearThird, takeThird, takeDeliver, get, deliverAt, advance, entryOf}
+use Rattle.broadcast.specs.Runs.{heardOf, lateSecond, lateThird, onOffer, onFirst, onSecond, onThird, onDeliver, onOrder, onRead, countSecond, countThird, arrive, nextAt, Receipt, Event, offer, first, second, third, deliver, order, read, crash, Allowed, does, blank, Reached, start, next, names, spent}
 use Rattle.broadcast.proofs.Late.{second-in-time, third-in-time}
-use Rattle.broadcast.proofs.Tests.{test, nope, either, not-false, stays, from, eqb-yes, eqb-true}
+use Rattle.broadcast.proofs.Steps.{relay-kept, after-countSecond, after-countThird, after-arrive}
+use Rattle.broadcast.proofs.Tests.{test, nope, either, not-false, from, eqb-yes, eqb-true}
 use Rattle.broadcast.proofs.Counts.{count-le, count-none, sum-none, sum-le}
-use Rattle.broadcast.proofs.Lists.{mem-in}
+use Rattle.broadcast.proofs.Lists.{mem-in, in-getD}
 use Rattle.broadcast.proofs.Safety.{Safe, safe, second-named, third-named, deliver-named, got-named, pool-named, log-named}
 use Rattle.broadcast.proofs.Sums.{pairs, sum-add, sum-one, sum-bits}
-use Rattle.broadcast.proofs.Potential.{in-getD, potential, unaware, all-unaware, sendFirst-rises, takeFirst-falls, see-same, sendSecond-rises, hearSecond-same, takeSecond-falls, step-falls, sendThird-rises, hearThird-same, takeThird-falls, fast-same, slow-same, takeDeliver-falls, relay-same, deliverAt-same, down-same, append-falls, advance-falls}
+use Rattle.broadcast.proofs.Potential.{potential, unaware, all-unaware, sendFirst-rises, takeFirst-falls, see-same, sendSecond-rises, hearSecond-same, takeSecond-falls, hearThird-same, takeThird-falls, takeDeliver-falls, countSecond-same, conclude-same, arrive-same, deliverAt-same, down-same, append-falls, advance-falls}
 use Rattle.broadcast.proofs.Thrift.{offers, offered-does, offered-grows}
 
 -- what an offer adds, and what a posting that is not offered has
@@ -58,73 +59,50 @@ module _ (w : World) where
           add-mul (w .n) 1 (bit (eqb m x)),
         )
 
-    -- the step that follows the (n - f)th SECOND pays for the THIRD
-    same-countSecond : (m r p : ℕ) (c : Cut) → s .seconds .sent m r p ≡ true → s .sets .stepped p m ≡ false → p < w .n
-        → (potential w (countSecond w (hearSecond w s m r p) m p c) x ≤ potential w s x) × ((countSecond w (hearSecond w s m r p) m p c) .seconds .sent m r p ≡ true)
-    same-countSecond m r p c here fresh lp =
-        let one = hearSecond w s m r p in
-        let two = see w one m p in
-        let three = step w two m p in
-        let still : two .sets .stepped p m ≡ false = unfold see hearSecond in fresh in
-        let heard = hearSecond-same w s x m r p in
-        either (λ t. (potential w t x ≤ potential w s x) × (t .seconds .sent m r p ≡ true)) (leb (w .n - w .f) (heardAt w one m p)) (sendThird w three m p c) one
-        (λ _. (omega (arith, sendThird-rises w three x m p c, step-falls w two x m p still lp, see-same w one x m p), unfold sendThird step see hearSecond in here))
-        (λ _. (omega arith, unfold hearSecond in here))
-
     falls-second : (m r p : ℕ) (c : Cut) → s .seconds .sent m r p ≡ true → Receipt w s r p c → potential w (onSecond w s m r p c) x + bit (eqb m x) ≤ potential w s x
     unfolding onSecond
     falls-second m r p c here ok =
-        let after = countSecond w (hearSecond w s m r p) m p c in
+        let one = hearSecond w s m r p in
         let late = lateSecond w s m r p in
-        let (less, sent) = either (λ t. (potential w t x ≤ potential w s x) × (t .seconds .sent m r p ≡ true)) late s after (λ _. (omega arith, here)) (λ t.
-        same-countSecond m r p c here ((second-in-time w s m r p t) .1) (ok .receiver)) in
-        omega (
-          arith,
-          downIf-same c (takeSecond w (cond late s after) m r p) p x,
-          takeSecond-falls w (cond late s after) x m r p sent (ok .sender) (ok .receiver),
-        )
+        let out = cond late s (countSecond w one m p c) in
+        let (less, sent) = either (λ t. (potential w t x ≤ potential w s x) × (t .seconds .sent m r p ≡ true)) late s (countSecond w one m p c) (λ _. (omega arith, here)) (λ t.
+        let open-m : one .sets .stepped p m ≡ false = unfold hearSecond in (second-in-time w s m r p t) .1 in (
+          omega (arith, countSecond-same w one x m p c open-m (ok .receiver), hearSecond-same w s x m r p),
+          after-countSecond w one (λ t. t .seconds .sent m r p ≡ true) m p c (λ _ _ _. unfold hearSecond in here),
+        )) in
+        omega (arith, downIf-same c (takeSecond w out m r p) p x, takeSecond-falls w out x m r p sent (ok .sender) (ok .receiver))
 
-    -- finishing raises nothing: the owner's n pay for the DELIVERs, or with what the other sites would have sent for an entry
-    same-countThird : 2 ≤ w .n → (m r : ℕ) (c : Cut) → s .thirds .sent m r ≡ true → s .finished m ≡ false
-        → (potential w (countThird w (hearThird w s m r) m c) x ≤ potential w s x) × ((countThird w (hearThird w s m r) m c) .thirds .sent m r ≡ true)
-    same-countThird two m r c here open-m =
+    same-countThird : 2 ≤ w .n → (m r : ℕ) (c : Cut) → s .finished m ≡ false → potential w (countThird w (hearThird w s m r) m c) x ≤ potential w s x
+    unfolding countThird hearThird
+    same-countThird two m r c open-m =
         let one = hearThird w s m r in
-        let done = finish w one m in
-        let still : one .finished m ≡ false = unfold hearThird in open-m in
-        let no-pool : one .oracle .pool m ≡ false = unfold hearThird in not-false (s .oracle .pool m) (λ h. nope (i .ending .pool-slow m h .done) open-m) in
-        let no-log : ¬ In m (one .oracle .log) = unfold hearThird in λ h. nope (i .ending .log-slow m h .done) open-m in
-        let none : (p : ℕ) → one .delivers .got p m ≡ false = unfold hearThird in λ p. not-false (s .delivers .got p m) (λ h. nope (i .ending .got-fast m p h .done) open-m) in
         let heard = hearThird-same w s x m r in
-        let Good : State → Type 0 = λ t. (potential w t x ≤ potential w s x) × (t .thirds .sent m r ≡ true) in
-        either Good (leb (w .n - w .f) (heardOf w one m)) (conclude w done m c) one
-        (λ _. either Good (majority (λ q. done .thirds .has m q) (w .n)) (sendDeliver w done m (w .owner m) (toAll w c)) (enterPool w done m c)
-        (λ _. (omega (arith, fast-same w one x m c still no-pool no-log), unfold sendDeliver finish hearThird in here))
-        (λ _. (omega (arith, slow-same w one x m c two still no-pool no-log none), unfold enterPool finish hearThird in here)))
-        (λ _. (omega arith, unfold hearThird in here))
+        either (λ t. potential w t x ≤ potential w s x) (leb (w .n - w .f) (heardOf w one m)) _ _
+        (λ _. rw (← heard) (conclude-same w one x m c two open-m (not-false (s .oracle .pool m) (λ h. nope (i .ending .pool-slow m h .done) open-m))
+        (λ h. nope (i .ending .log-slow m h .done) open-m) (λ p. not-false (s .delivers .got p m) (λ h. nope (i .ending .got-fast m p h .done) open-m))))
+        (λ _. omega arith)
 
     falls-third : 2 ≤ w .n → (m r : ℕ) (c : Cut) → s .thirds .sent m r ≡ true → Receipt w s r (w .owner m) c
         → potential w (onThird w s m r c) x + bit (eqb m x) ≤ potential w s x
     unfolding onThird
     falls-third two m r c here ok =
-        let after = countThird w (hearThird w s m r) m c in
+        let one = hearThird w s m r in
         let late = lateThird w s m r in
-        let (less, sent) = either (λ t. (potential w t x ≤ potential w s x) × (t .thirds .sent m r ≡ true)) late s after (λ _. (omega arith, here)) (λ t.
-        same-countThird two m r c here ((third-in-time w s m r t) .1)) in
-        omega (
-          arith,
-          downIf-same c (takeThird w (cond late s after) m r) (w .owner m) x,
-          takeThird-falls w (cond late s after) x m r sent (ok .sender),
-        )
+        let out = cond late s (countThird w one m c) in
+        let (less, sent) = either (λ t. (potential w t x ≤ potential w s x) × (t .thirds .sent m r ≡ true)) late s (countThird w one m c) (λ _. (omega arith, here)) (λ t.
+        (same-countThird two m r c ((third-in-time w s m r t) .1), after-countThird w one (λ t. t .thirds .sent m r ≡ true) m c (λ _ _ _ _. unfold hearThird in here))) in
+        omega (arith, downIf-same c (takeThird w out m r) (w .owner m) x, takeThird-falls w out x m r sent (ok .sender))
 
     -- DELIVER m is in flight, and m is in no entry
     abbrev Flying : ℕ → ℕ → ℕ → State → Type 0
     Flying m r p t = (t .delivers .sent m r p ≡ true) × (t .oracle .pool m ≡ false) × (¬ In m (t .oracle .log))
 
-    flying-relay : (m r p : ℕ) (c : Cut) → Flying m r p s → Flying m r p (deliverAt w (get w (relay w s m p c) m p) p (m ∷ []) c)
-    flying-relay m r p c h =
-        let to : ℕ → Bool = λ t. not (eqb p t) && toAll w c t in
-        unfold deliverAt get in either (Flying m r p) (eqb p (w .owner m)) s (sendDeliver w s m p to) (λ _. h)
-        (λ _. unfold sendDeliver in (stays (at2 m p m r && to p) (s .delivers .sent m r p) (h .0), h .1, h .2))
+    flying-arrive : (m r p : ℕ) (c : Cut) → Flying m r p s → Flying m r p (arrive w s m p c)
+    flying-arrive m r p c h = (
+      unfold arrive deliverAt get in relay-kept w s m p c m r p (h .0),
+      after-arrive w s (λ t. t .oracle .pool m ≡ false) m p c (λ _ _ _. h .1),
+      after-arrive w s (λ t. ¬ In m (t .oracle .log)) m p c (λ _ _ _. h .2),
+    )
 
     falls-deliver : (m r p : ℕ) (c : Cut) → s .delivers .sent m r p ≡ true → Receipt w s r p c
         → potential w (onDeliver w s m r p c) x + bit (eqb m x) ≤ potential w s x
@@ -132,16 +110,11 @@ module _ (w : World) where
     falls-deliver m r p c here ok =
         let fast = i .ending .sent-fast m r p here in
         let got = s .delivers .got p m in
-        let one = get w (relay w s m p c) m p in
-        let after = deliverAt w one p (m ∷ []) c in
+        let out = cond got s (arrive w s m p c) in
         let flying : Flying m r p s = (here, fast .no-pool, fast .no-log) in
-        let (less, k) = either (λ t. (potential w t x ≤ potential w s x) × Flying m r p t) got s after (λ _. (omega arith, flying)) (λ fresh.
-        (omega (arith, deliverAt-same w one x p (m ∷ []) c, relay-same w s x m p c (ok .receiver) fresh), flying-relay m r p c flying)) in
-        omega (
-          arith,
-          downIf-same c (takeDeliver w (cond got s after) m r p) p x,
-          takeDeliver-falls w (cond got s after) x m r p (k .0) (k .1) (k .2) (ok .sender) (ok .receiver),
-        )
+        let (less, k) = either (λ t. (potential w t x ≤ potential w s x) × Flying m r p t) got s (arrive w s m p c) (λ _. (omega arith, flying)) (λ fresh.
+        (arrive-same w s x m p c (ok .receiver) fresh, flying-arrive m r p c flying)) in
+        omega (arith, downIf-same c (takeDeliver w out m r p) p x, takeDeliver-falls w out x m r p (k .0) (k .1) (k .2) (ok .sender) (ok .receiver))
 
     falls-read : (p : ℕ) (c : Cut) → p < w .n → s .sites .place p < length (s .oracle .log)
         → potential w (onRead w s p c) x + bit (eqb (nextAt w s p) x) ≤ potential w s x

@@ -3,6 +3,7 @@ pub mod Counts
 pub mod Lists
 pub mod Exchange
 pub mod Late
+pub mod Steps
 pub mod Voting
 pub mod Tallies
 pub mod Ending

@@ -1,18 +1,19 @@
 -- What keeps a run going (L1 to L6), as facts of the sites that are up: a posting's next message is on its way until the step
 -- that it asks for is done. `up` is any part of the sites that are up, so that a cut site has nothing to show. Assumes nothing.
 use Prim.Native.Nat.{ℕ, _-_, _<_, _≤_}
-use mathlib.Core.Path.{_≡_, refl, sym, ap, _∙_}
+use mathlib.Core.Path.{_≡_, sym, ap, _∙_}
 use mathlib.Core.Logic.{_⊎_, inl, inr, _≢_}
-use mathlib.Core.Bool.{Bool, true, false, cond, not, _&&_, _||_}
-use mathlib.Core.List.{List, [], _∷_, _++_}
+use mathlib.Core.Bool.{Bool, true, false, not, _&&_}
+use mathlib.Core.List.{[], _∷_}
 use native.Mathlib.Omega.{arith}
-use lib.Dec.{eqb, ltb, leb}
+use lib.Dec.{eqb, leb}
 use Rattle.broadcast.specs.Lists.{In}
 use Rattle.broadcast.specs.Counts.{count, majority}
-use Rattle.broadcast.specs.Machine.{World, Seconds, Thirds, Delivers, Oracle, State, Cut, goes, at2, at3, with, join, send, take, toAll, sendFirst, takeFirst, see, sendSecond, hearSecond, takeSecond, step, sendThird, hearThird, takeThird, finish, sendDeliver, enterPool, takeDeliver, get, append}
-use Rattle.broadcast.specs.Runs.{heardAt, heardOf, countSecond, countThird, conclude, relay}
-use Rattle.broadcast.proofs.Tests.{test, nope, either, and-l, and-r, and-i, from, stays, drops, eqb-yes, eqb-no, eqb-true, eqb-false, at2-true, at3-true, at2-refl, at3-refl, join-new, join-at, join-cases, ltb-yes, leb-true, leb-false, same-or, not-false}
+use Rattle.broadcast.specs.Machine.{World, Seconds, Thirds, Delivers, Oracle, State, Cut, goes, at2, at3, join, toAll, sendFirst, takeFirst, see, sendSecond, hearSecond, takeSecond, step, sendThird, hearThird, takeThird, finish, takeDeliver, get, deliverAt, append}
+use Rattle.broadcast.specs.Runs.{heardAt, heardOf, countSecond, countThird, conclude, relay, arrive}
+use Rattle.broadcast.proofs.Tests.{test, nope, either, and-i, from, stays, eqb-no, eqb-true, at2-true, at3-true, at2-refl, join-new, join-cases, ltb-yes, leb-false, same-or}
 use Rattle.broadcast.proofs.Counts.{count-ext}
+use Rattle.broadcast.proofs.Steps.{finish-new, sendDeliver-new, enterPool-new, conclude-kept, conclude-pool-other, relay-kept, after-conclude, after-relay}
 use Rattle.broadcast.proofs.Lists.{in-left, in-right}
 use Rattle.broadcast.proofs.Ending.{Fast}
 
@@ -74,6 +75,22 @@ module _ (w : World) where
 
   all-sent : (c : Cut) (t : ℕ) → t < w .n → goes c t ≡ true → toAll w c t ≡ true
   all-sent c t lt g = and-i _ (goes c t) (ltb-yes t (w .n) lt) g
+
+  -- where all goes out, a posting that is finished goes one way or the other, and a relay goes to every other site
+  conclude-goes : (s : State) (m : ℕ) (c : Cut) → ((q : ℕ) → goes c q ≡ true)
+      → ((conclude w s m c) .oracle .pool m ≡ true) ⊎ ((q : ℕ) → q < w .n → (conclude w s m c) .delivers .sent m (w .owner m) q ≡ true)
+  unfolding conclude
+  conclude-goes s m c full =
+      either (λ (t : State). (t .oracle .pool m ≡ true) ⊎ ((q : ℕ) → q < w .n → t .delivers .sent m (w .owner m) q ≡ true))
+      (majority (λ r. s .thirds .has m r) (w .n)) _ _
+      (λ _. inr (λ q lq. sendDeliver-new w _ m (w .owner m) _ q (all-sent c q lq (full q))))
+      (λ _. inl (enterPool-new w s m c (full (w .owner m))))
+
+  relay-sends : (s : State) (m p q : ℕ) (c : Cut) → eqb p (w .owner m) ≡ false → q < w .n → p ≢ q → goes c q ≡ true → (relay w s m p c) .delivers .sent m p q ≡ true
+  unfolding relay
+  relay-sends s m p q c other lq d out =
+      either (λ (t : State). t .delivers .sent m p q ≡ true) (eqb p (w .owner m)) _ _ (λ own. absurd (nope own other))
+      (λ _. sendDeliver-new w s m p _ q (and-i (not (eqb p q)) (toAll w c q) (ap not (eqb-no p q d)) (all-sent c q lq out)))
 
   module _ (up : ℕ → Bool) (s : State) (i : LiveAt up s) where
     pub live-offer : (m : ℕ) (c : Cut) → Full up c (w .owner m) → LiveAt up (sendFirst w s m c)
@@ -154,69 +171,49 @@ module _ (w : World) where
     unfolding hearSecond
     heard-more m a p x q r h = stays (at3 m a p x q r) _ h
 
+    -- hearing is followed by the step where it is the (n - f)th: the second round's facts
+    answers-heard : (m a p : ℕ) (stepped : ℕ → ℕ → Bool) → ((q x : ℕ) → s .sets .stepped q x ≡ true → stepped q x ≡ true)
+        → (w .n - w .f ≤ heardAt w (hearSecond w s m a p) m p → stepped p m ≡ true) → Answers up (s .offered) (s .firsts) stepped ((hearSecond w s m a p) .seconds)
+    answers-heard m a p stepped more last = record {
+      answers = λ x q r k o lq uq lr ur. elim (i .answering .answers x q r k o lq uq lr ur) [
+        | inl h ↦ inl h
+        | inr h ↦ elim h [
+          | inl k ↦ inr (inl (unfold hearSecond in k))
+          | inr k ↦ elim k [ inl g ↦ inr (inr (inl (heard-more m a p x q r g))) | inr g ↦ inr (inr (inr (more r x g))) ]
+        ]
+      ];
+      steps = λ x q h. elim (test (at2 m p x q)) [
+        | inl u ↦ let e = at2-true m p x q u in rw (← e .0, ← e .1) (last (rw (← e .0, ← e .1) at h))
+        | inr u ↦ more q x (i .answering .steps x q (rw (← heard-other m a p x q u) h))
+      ];
+    }
+
     -- a SECOND is heard and counted
     pub live-countSecond : (m a p : ℕ) (c : Cut) → Full up c p → LiveAt up (countSecond w (hearSecond w s m a p) m p c)
-    live-countSecond m a p c full =
-        let one = hearSecond w s m a p in
-        either (LiveAt up) (leb (w .n - w .f) (heardAt w one m p)) (sendThird w (step w (see w one m p) m p) m p c) one
-        (λ t. unfold sendThird step see in record {
-          answering = record {
-            answers = λ x q r k o lq uq lr ur. elim (i .answering .answers x q r (unfold hearSecond in k) o lq uq lr ur) [
-              | inl h ↦ inl (unfold hearSecond in h)
-              | inr h ↦ elim h [
-                | inl k ↦ inr (inl (unfold hearSecond in k))
-                | inr k ↦ elim k [
-                  | inl g ↦ inr (inr (inl (heard-more m a p x q r g)))
-                  | inr g ↦ inr (inr (inr (unfold hearSecond in stays (at2 p m r x) _ g)))
-                ]
-              ]
-            ];
-            steps = λ x q h. elim (test (at2 m p x q)) [
-              | inl u ↦ let e = at2-true m p x q u in join-at (one .sets .stepped) p m q x (e .1) (e .0)
-              | inr u ↦ unfold hearSecond in stays (at2 p m q x) _ (i .answering .steps x q (rw (← heard-other m a p x q u) h))
-            ];
-          };
-          reporting = record {
-            reports = λ x r h u o. elim (join-cases (one .sets .stepped) p m r x h) [
-              | inl e ↦ inl (rw (e .1, e .0, at2-refl x r, full (rw (e .0) u) (w .owner x)))
-              | inr k ↦ elim (i .reporting .reports x r (unfold hearSecond in k) u o) [
-                | inl g ↦ inl (unfold hearSecond in stays (at2 m p x r && goes c (w .owner m)) _ g)
-                | inr g ↦ inr (unfold hearSecond in g)
-              ]
-            ];
-            ends = unfold hearSecond in i .reporting .ends;
-          };
-          outcomes = unfold hearSecond in i .outcomes;
-          relaying = unfold hearSecond in i .relaying;
-        })
-        (λ t. record {
-          answering = record {
-            answers = λ x q r k o lq uq lr ur. elim (i .answering .answers x q r (unfold hearSecond in k) o lq uq lr ur) [
-              | inl h ↦ inl (unfold hearSecond in h)
-              | inr h ↦ elim h [
-                | inl k ↦ inr (inl (unfold hearSecond in k))
-                | inr k ↦ elim k [
-                  | inl g ↦ inr (inr (inl (heard-more m a p x q r g)))
-                  | inr g ↦ inr (inr (inr (unfold hearSecond in g)))
-                ]
-              ]
-            ];
-            steps = λ x q h. elim (test (at2 m p x q)) [
-              | inl u ↦ let e = at2-true m p x q u in absurd (few x q e t h)
-              | inr u ↦ unfold hearSecond in i .answering .steps x q (rw (← heard-other m a p x q u) h)
-            ];
-          };
-          reporting = unfold hearSecond in i .reporting;
-          outcomes = unfold hearSecond in i .outcomes;
-          relaying = unfold hearSecond in i .relaying;
-        })
+    unfolding countSecond sendThird step see hearSecond
+    live-countSecond m a p c full = elim (test (leb (w .n - w .f) (heardAt w (hearSecond w s m a p) m p))) [
+      | inl t ↦ rw (t, countSecond) (record {
+        answering = answers-heard m a p (join (s .sets .stepped) p m) (λ q x h. stays (at2 p m q x) _ h) (λ _. join-new (s .sets .stepped) p m);
+        reporting = record {
+          reports = λ x r h u o. elim (join-cases (s .sets .stepped) p m r x h) [
+            | inl e ↦ inl (rw (e .1, e .0, at2-refl x r, full (rw (e .0) u) (w .owner x)))
+            | inr k ↦ elim (i .reporting .reports x r k u o) [ inl g ↦ inl (stays (at2 m p x r && goes c (w .owner m)) _ g) | inr g ↦ inr g ]
+          ];
+          ends = i .reporting .ends;
+        };
+        outcomes = i .outcomes;
+        relaying = i .relaying;
+      })
+      | inr t ↦ rw (t, countSecond) (record {
+        answering = answers-heard m a p (s .sets .stepped) (λ q x h. h) (λ many. absurd (few t many));
+        reporting = i .reporting;
+        outcomes = i .outcomes;
+        relaying = i .relaying;
+      })
+    ]
       where
-        few : (x q : ℕ) → (m ≡ x) × (p ≡ q) → leb (w .n - w .f) (heardAt w (hearSecond w s m a p) m p) ≡ false
-            → w .n - w .f ≤ heardAt w (hearSecond w s m a p) x q → ⊥
-        few x q e t h =
-            let less = leb-false (w .n - w .f) (heardAt w (hearSecond w s m a p) m p) t in
-            let many : w .n - w .f ≤ heardAt w (hearSecond w s m a p) m p = rw (← e .0, ← e .1) at h in
-            omega arith
+        few : leb (w .n - w .f) (heardAt w (hearSecond w s m a p) m p) ≡ false → w .n - w .f ≤ heardAt w (hearSecond w s m a p) m p → ⊥
+        few t many = let less = leb-false (w .n - w .f) (heardAt w (hearSecond w s m a p) m p) t in omega arith
 
     -- a THIRD that was heard, or is no longer needed, may leave the flight
     pub live-takeThird : (m a : ℕ) → (s .thirds .heard m a ≡ true) ⊎ (s .finished m ≡ true) → LiveAt up (takeThird w s m a)
@@ -264,50 +261,34 @@ module _ (w : World) where
     unfolding finish hearThird
     finish-more m a x h = stays (eqb m x) _ h
 
-    finish-new : (m a : ℕ) → (finish w (hearThird w s m a) m) .finished m ≡ true
-    unfolding finish
-    finish-new m a = rw (eqb-yes m m refl)
-
-    live-finish-fast : (m a : ℕ) (c : Cut) → Full up c (w .owner m) → LiveAt up (sendDeliver w (finish w (hearThird w s m a) m) m (w .owner m) (toAll w c))
-    unfolding sendDeliver finish hearThird
-    live-finish-fast m a c full = record {
-      answering = i .answering;
-      reporting = reports-heard m a ((finish w (hearThird w s m a) m) .finished) (finish-more m a) (λ _. finish-new m a);
-      outcomes = record {
-        outcome = λ x h o. elim (test (eqb m x)) [
-          | inl e ↦ inr (inr (λ q lq. let d = eqb-true m x e in
-              let out : toAll w c q ≡ true = all-sent c q lq (full (rw d o) q) in
-              inl (rw (d, at2-refl x (w .owner x), out))))
-          | inr e ↦ elim (i .outcomes .outcome x (rw e at h) o) [
-            | inl k ↦ inl k
-            | inr k ↦ elim k [
-              | inl g ↦ inr (inl g)
-              | inr g ↦ inr (inr (λ q lq. elim (g q lq) [ inl v ↦ inl (stays (at2 m (w .owner m) x (w .owner x) && toAll w c q) _ v) | inr v ↦ inr v ]))
-            ]
-          ]
-        ];
-      };
-      relaying = record {
-        relays = λ x q r lq u g lr v. elim (i .relaying .relays x q r lq u g lr v) [
-          | inl k ↦ inl k
-          | inr k ↦ inr (k .0, k .1, stays (at2 m (w .owner m) x (k .0) && toAll w c r) _ (k .2))
-        ];
-      };
-    }
-
-    live-finish-slow : (m a : ℕ) (c : Cut) → Full up c (w .owner m) → LiveAt up (enterPool w (finish w (hearThird w s m a) m) m c)
-    unfolding enterPool finish hearThird
-    live-finish-slow m a c full = record {
-      answering = i .answering;
-      reporting = reports-heard m a ((finish w (hearThird w s m a) m) .finished) (finish-more m a) (λ _. finish-new m a);
-      outcomes = record {
-        outcome = λ x h o. elim (test (eqb m x)) [
-          | inl e ↦ let d = eqb-true m x e in inl (rw (e, full (rw d o) (w .owner m)))
-          | inr e ↦ elim (i .outcomes .outcome x (rw e at h) o) [ inl k ↦ inl (stays (eqb m x && goes c (w .owner m)) _ k) | inr k ↦ inr k ]
-        ];
-      };
-      relaying = i .relaying;
-    }
+    live-conclude : (m a : ℕ) (c : Cut) → Full up c (w .owner m) → LiveAt up (conclude w (finish w (hearThird w s m a) m) m c)
+    unfolding finish hearThird
+    live-conclude m a c full =
+        let done = finish w (hearThird w s m a) m in
+        after-conclude w done (λ t. ((x q r : ℕ) → done .delivers .sent x q r ≡ true → t .delivers .sent x q r ≡ true)
+        → ((x : ℕ) → eqb m x ≡ false → t .oracle .pool x ≡ done .oracle .pool x)
+        → (up (w .owner m) ≡ true → (t .oracle .pool m ≡ true) ⊎ ((q : ℕ) → q < w .n → t .delivers .sent m (w .owner m) q ≡ true)) → LiveAt up t) m c
+        (λ sent pool entry kept other goes-out. record {
+          answering = i .answering;
+          reporting = reports-heard m a (done .finished) (finish-more m a) (λ _. finish-new w (hearThird w s m a) m);
+          outcomes = record {
+            outcome = λ x h o. elim (test (eqb m x)) [
+              | inl e ↦ let d = eqb-true m x e in
+                  elim (goes-out (rw d o)) [ inl k ↦ inl (rw (← d) k) | inr k ↦ inr (inr (λ q lq. inl (rw (← d) (k q lq)))) ]
+              | inr e ↦ elim (i .outcomes .outcome x (rw e at h) o) [
+                | inl k ↦ inl (other x e ∙ k)
+                | inr k ↦ elim k [
+                  | inl g ↦ inr (inl g)
+                  | inr g ↦ inr (inr (λ q lq. elim (g q lq) [ inl v ↦ inl (kept x (w .owner x) q v) | inr v ↦ inr v ]))
+                ]
+              ]
+            ];
+          };
+          relaying = record {
+            relays = λ x q r lq u g lr v. elim (i .relaying .relays x q r lq u g lr v) [ inl k ↦ inl k | inr k ↦ inr (k .0, k .1, kept x (k .0) r (k .2)) ];
+          };
+        })
+        (conclude-kept w done m c) (conclude-pool-other w done m c) (λ u. conclude-goes done m c (full u))
 
     live-hearThird : (m a : ℕ) → heardOf w (hearThird w s m a) m < w .n - w .f → LiveAt up (hearThird w s m a)
     live-hearThird m a less = record {
@@ -319,14 +300,11 @@ module _ (w : World) where
 
     -- a THIRD is heard and counted
     pub live-countThird : (m a : ℕ) (c : Cut) → Full up c (w .owner m) → LiveAt up (countThird w (hearThird w s m a) m c)
+    unfolding countThird
     live-countThird m a c full =
-        let one = hearThird w s m a in
-        let done = finish w one m in
-        either (LiveAt up) (leb (w .n - w .f) (heardOf w one m)) (conclude w done m c) one
-        (λ _. either (LiveAt up) (majority (λ r. done .thirds .has m r) (w .n)) (sendDeliver w done m (w .owner m) (toAll w c)) (enterPool w done m c)
-        (λ _. live-finish-fast m a c full)
-        (λ _. live-finish-slow m a c full))
-        (λ t. live-hearThird m a (leb-false (w .n - w .f) (heardOf w one m) t))
+        either (LiveAt up) (leb (w .n - w .f) (heardOf w (hearThird w s m a) m)) _ _
+        (λ _. live-conclude m a c full)
+        (λ t. live-hearThird m a (leb-false (w .n - w .f) (heardOf w (hearThird w s m a) m) t))
 
     -- a DELIVER that was got may leave the flight
     pub live-takeDeliver : (m a p : ℕ) → s .delivers .got p m ≡ true → LiveAt up (takeDeliver w s m a p)
@@ -361,12 +339,12 @@ module _ (w : World) where
     }
 
     -- the first receipt of DELIVER m at p: p relays, or is the owner, whose own DELIVERs went out
-    pub live-arrive : (m p : ℕ) (c : Cut) → p < w .n → Full up c p → Fast w (s .thirds) (s .finished) (s .oracle) m
-        → LiveAt up (get w (relay w s m p c) m p)
-    live-arrive m p c lp full fast =
-        let to : ℕ → Bool = λ t. not (eqb p t) && toAll w c t in
-        either (λ t. LiveAt up (get w t m p)) (eqb p (w .owner m)) s (sendDeliver w s m p to)
-        (λ own. unfold get in record {
+    pub live-relay : (m p : ℕ) (c : Cut) → p < w .n → Full up c p → Fast w (s .thirds) (s .finished) (s .oracle) m → LiveAt up (get w (relay w s m p c) m p)
+    unfolding get
+    live-relay m p c lp full fast =
+        after-relay w s (λ t. ((x a b : ℕ) → s .delivers .sent x a b ≡ true → t .delivers .sent x a b ≡ true)
+        → (eqb p (w .owner m) ≡ false → up p ≡ true → (q : ℕ) → q < w .n → p ≢ q → t .delivers .sent m p q ≡ true) → LiveAt up (get w t m p)) m p c
+        (λ sent kept out. record {
           answering = i .answering;
           reporting = i .reporting;
           outcomes = record {
@@ -374,61 +352,42 @@ module _ (w : World) where
               | inl k ↦ inl k
               | inr k ↦ elim k [
                 | inl g ↦ inr (inl g)
-                | inr g ↦ inr (inr (λ q lq. elim (g q lq) [ inl v ↦ inl v | inr v ↦ inr (stays (at2 p m q x) _ v) ]))
+                | inr g ↦ inr (inr (λ q lq. elim (g q lq) [ inl v ↦ inl (kept x (w .owner x) q v) | inr v ↦ inr (stays (at2 p m q x) _ v) ]))
               ]
             ];
           };
           relaying = record {
             relays = λ x q r lq u g lr v. elim (join-cases (s .delivers .got) p m q x g) [
-              | inl e ↦
-                  let o : up (w .owner m) ≡ true = rw (← eqb-true p (w .owner m) own, e .0) u in
-                  elim (i .outcomes .outcome m (fast .done) o) [
-                    | inl k ↦ absurd (nope k (fast .no-pool))
-                    | inr k ↦ elim k [
-                      | inl h ↦ absurd (fast .no-log h)
-                      | inr h ↦ elim (h r lr) [
-                        | inl d ↦ inr (w .owner m, w .owned m, rw (← e .1) d)
-                        | inr d ↦ inl (stays (at2 p m r x) _ (rw (← e .1) d))
+              | inl e ↦ elim (test (eqb p (w .owner m))) [
+                | inl own ↦
+                    let o : up (w .owner m) ≡ true = rw (← eqb-true p (w .owner m) own, e .0) u in
+                    elim (i .outcomes .outcome m (fast .done) o) [
+                      | inl k ↦ absurd (nope k (fast .no-pool))
+                      | inr k ↦ elim k [
+                        | inl h ↦ absurd (fast .no-log h)
+                        | inr h ↦ elim (h r lr) [
+                          | inl d ↦ inr (w .owner m, w .owned m, rw (← e .1) (kept m (w .owner m) r d))
+                          | inr d ↦ inl (stays (at2 p m r x) _ (rw (← e .1) d))
+                        ]
                       ]
                     ]
-                  ]
+                | inr other ↦ elim (same-or p r) [
+                  | inl d ↦ inl (rw (d, e .1, at2-refl r x))
+                  | inr d ↦ inr (p, lp, rw (← e .1) (out other (rw (e .0) u) r lr d))
+                ]
+              ]
               | inr o ↦ elim (i .relaying .relays x q r lq u o lr v) [
                 | inl k ↦ inl (stays (at2 p m r x) _ k)
-                | inr k ↦ inr k
+                | inr k ↦ inr (k .0, k .1, kept x (k .0) r (k .2))
               ]
             ];
           };
         })
-        (λ other. unfold get sendDeliver in record {
-          answering = i .answering;
-          reporting = i .reporting;
-          outcomes = record {
-            outcome = λ x h o. elim (i .outcomes .outcome x h o) [
-              | inl k ↦ inl k
-              | inr k ↦ elim k [
-                | inl g ↦ inr (inl g)
-                | inr g ↦ inr (inr (λ q lq. elim (g q lq) [
-                  | inl v ↦ inl (stays (at2 m p x (w .owner x) && to q) _ v)
-                  | inr v ↦ inr (stays (at2 p m q x) _ v)
-                ]))
-              ]
-            ];
-          };
-          relaying = record {
-            relays = λ x q r lq u g lr v. elim (join-cases (s .delivers .got) p m q x g) [
-              | inl e ↦ elim (same-or p r) [
-                | inl d ↦ inl (rw (d, e .1, at2-refl r x))
-                | inr d ↦
-                    let out : to r ≡ true = rw (eqb-no p r d) (all-sent c r lr (full (rw (e .0) u) r)) in
-                    inr (p, lp, rw (e .1, at2-refl x p, out))
-              ]
-              | inr o ↦ elim (i .relaying .relays x q r lq u o lr v) [
-                | inl k ↦ inl (stays (at2 p m r x) _ k)
-                | inr k ↦ inr (k .0, k .1, stays (at2 m p x (k .0) && to r) _ (k .2))
-              ]
-            ];
-          };
-        })
+        (relay-kept w s m p c) (λ other u q lq d. relay-sends s m p q c other lq d (full u q))
+
+    pub live-arrive : (m p : ℕ) (c : Cut) → p < w .n → Full up c p → Fast w (s .thirds) (s .finished) (s .oracle) m → LiveAt up (arrive w s m p c)
+    unfolding arrive deliverAt
+    live-arrive m p c lp full fast = live-relay m p c lp full fast
 
     -- an entry moves from the pool to the log
     pub live-append : (m : ℕ) → LiveAt up (append w s m)

@@ -1,8 +1,8 @@
 -- One order of all postings delivered anywhere: every record respects it, and has with every posting each conflicting one ahead of it.
 -- Rests on F1, F2 and R1 to R4 alone, as parameters; the last theorem is for the states that a run reaches. Assumes nothing.
-use Prim.Native.Nat.{ℕ, zero, suc, _<_, _≤_}
-use mathlib.Core.Path.{_≡_, refl, sym, ap, _∙_}
-use mathlib.Core.Logic.{_⊎_, inl, inr, _≢_}
+use Prim.Native.Nat.{ℕ, zero, suc, _<_}
+use mathlib.Core.Path.{_≡_, refl, sym, _∙_}
+use mathlib.Core.Logic.{inl, inr}
 use mathlib.Core.Bool.{Bool, true, false, not}
 use mathlib.Core.List.{List, [], _∷_, _++_, append-assoc}
 use native.Mathlib.Omega.{arith}
@@ -10,13 +10,13 @@ use Rattle.broadcast.specs.Lists.{In, NoRepeat, Before, mem, Exchanges, 
 use Rattle.broadcast.specs.Counts.{nowhere}
 use Rattle.broadcast.specs.Machine.{World, State, entryOf, expand}
 use Rattle.broadcast.specs.Runs.{Event, Reached}
-use Rattle.broadcast.proofs.Tests.{test, nope, not-false, not-true, same-or}
-use Rattle.broadcast.proofs.Counts.{nowhere-none, none-nowhere}
+use Rattle.broadcast.proofs.Tests.{test, nope, not-true, same-or}
+use Rattle.broadcast.proofs.Counts.{nowhere-none}
 use Rattle.broadcast.proofs.Lists.{mem-in, in-mem, in-one, in-left, in-right, in-cases, before-left, before-right, keep-in, in-keep, keep-norepeat, keep-before, once-in, in-once, once-norepeat, once-before, Ahead, ahead-append, ahead-part, ahead-asym, ahead-past, ahead-here, keep-ahead, members-in, in-members}
 use Rattle.broadcast.proofs.Exchange.{exchanges}
 use Rattle.broadcast.proofs.Ending.{won, won-held, won-apart, entry-apart, entry-carries}
 use Rattle.broadcast.proofs.Safety.{Safe, safe, log-named, entry-named, got-named, stepped-named}
-use Rattle.broadcast.proofs.Records.{Read, Recorded, Records, records, expand-append}
+use Rattle.broadcast.proofs.Records.{Read, Records, records, expand-in}
 
 -- all numbers below n
 abbrev pub all : ℕ → List ℕ
@@ -102,20 +102,6 @@ module _ (w : World) where
             (elim (in-cases y (set ++ (m ∷ [])) (expand w entry l) here) [ inl k ↦ absurd (none k) | inr k ↦ k ]))
       ]
 
-  -- what an entry delivers: its posting, or one of its set
-  pub expand-in : (entry : ℕ → ℕ → Bool) (log : List ℕ) (x : ℕ) → In x (expand w entry log) → In x log ⊎ ((m : ℕ) × In m log × (entry m x ≡ true))
-  unfolding entryOf
-  expand-in entry (m ∷ l) x h = elim (in-cases x (members (entry m) (w .bound) ++ (m ∷ [])) (expand w entry l) h) [
-    | inl k ↦ elim (in-cases x (members (entry m) (w .bound)) (m ∷ []) k) [
-      | inl q ↦ inr (m, inl refl, (members-in (entry m) x (w .bound) q) .1)
-      | inr q ↦ inl (inl (in-one q))
-    ]
-    | inr k ↦ elim (expand-in entry l x k) [
-      | inl q ↦ inl (inr q)
-      | inr q ↦ inr (q .0, inr (q .1), q .2)
-    ]
-  ]
-
   -- some site's record has x
   unfoldable pub anywhere : State → ℕ → Bool
   anywhere s x = not (nowhere (λ p. mem x (s .sites .delivered p)) (w .n))
@@ -153,7 +139,7 @@ module _ (w : World) where
     pub delivered-named : (p x : ℕ) → In x (s .sites .delivered p) → s .offered x ≡ true
     delivered-named p x m = elim (i .each p .came x m) [
       | inl g ↦ got-named w s j x p g
-      | inr d ↦ elim (expand-in (s .oracle .entry) (s .oracle .log) x (rw (i .each p .split) (in-left x (i .each p .done) (i .each p .rest) d))) [
+      | inr d ↦ elim (expand-in w (s .oracle .entry) (s .oracle .log) x (rw (i .each p .split) (in-left x (i .each p .done) (i .each p .rest) d))) [
         | inl k ↦ log-named w s j x k
         | inr k ↦ entry-named w s j (k .0) x (k .1) (k .2)
       ]

@@ -1,32 +1,28 @@
 -- How much a posting may still cost: its potential, and what each small step does to it. A step of posting m is a step for all
--- postings x: what it takes or adds is a multiple of `bit (eqb m x)`. Rests on Machine, Runs and Sums. Assumes nothing.
+-- postings x: what it takes or adds is a multiple of `bit (eqb m x)`. Rests on Machine, Runs, Steps and Sums. Assumes nothing.
 use Prim.Native.Nat.{ℕ, zero, suc, _+_, _*_, _-_, _<_, _≤_}
-use mathlib.Core.Path.{_≡_, refl, sym}
+use mathlib.Core.Path.{_≡_, refl, sym, subst}
 use mathlib.Core.Logic.{inl, inr, _≢_}
 use mathlib.Core.Bool.{Bool, true, false, cond, not, _&&_}
 use mathlib.Core.List.{List, [], _∷_, _++_}
 use native.Mathlib.Omega.{arith}
-use native.Mathlib.Nat.{mul-add, mul-pos, mul-le-mul-left}
+use native.Mathlib.Nat.{mul-add, mul-pos, mul-le-mul-left, le-refl, le-add-right}
 use lib.Dec.{eqb, leb}
 use lib.ListN.{length, getD}
 use Rattle.broadcast.specs.Lists.{In, NoRepeat, mem}
-use Rattle.broadcast.specs.Counts.{bit, count}
+use Rattle.broadcast.specs.Counts.{bit, count, majority}
 use Rattle.broadcast.specs.Machine.{World, State, Cut, goes, toAll, down, sendFirst, takeFirst, see, sendSecond, hearSecond, takeSecond, step, sendThird, hearThird, takeThird, finish, sendDeliver, enterPool, takeDeliver, get, deliverAt, append, advance}
-use Rattle.broadcast.specs.Runs.{relay, nextAt}
-use Rattle.broadcast.proofs.Tests.{test, nope, either, not-false, eqb-yes, eqb-no, eqb-true, eqb-false, leb-true, leb-yes}
+use Rattle.broadcast.specs.Runs.{heardAt, countSecond, conclude, relay, arrive, nextAt}
+use Rattle.broadcast.proofs.Steps.{conclude-pool-other, after-conclude}
+use Rattle.broadcast.proofs.Tests.{test, nope, either, not-self, not-false, eqb-yes, eqb-no, eqb-true, eqb-false, leb-true, leb-yes}
 use Rattle.broadcast.proofs.Counts.{count-le, count-mono, count-lt}
-use Rattle.broadcast.proofs.Lists.{mem-in, in-mem, in-right}
+use Rattle.broadcast.proofs.Lists.{not-mem, in-mem, in-right, in-getD}
 use Rattle.broadcast.proofs.Sums.{pairs, scale-fall, count-take, pairs-take, pairs-send, count-send, count-join, count-join-le, count-miss, count-but}
 
 -- the place of x in a list that has it
 abbrev pub index : ℕ → List ℕ → ℕ
 index x [] = 0
 index x (y ∷ l) = cond (eqb x y) 0 (suc (index x l))
-
-pub in-getD : (l : List ℕ) (k : ℕ) → k < length l → In (getD l k 0) l
-in-getD [] k h = absurd (omega arith)
-in-getD (y ∷ l) zero h = inl refl
-in-getD (y ∷ l) (suc k) h = inr (in-getD l k (omega arith))
 
 index-getD : (l : List ℕ) (k : ℕ) → NoRepeat l → k < length l → index (getD l k 0) l ≡ k
 index-getD [] k d h = absurd (omega arith)
@@ -74,16 +70,15 @@ end-falls n false true fin u v v′ false h k = omega arith
 end-falls n false false fin u v v′ false h k = omega arith
 
 -- the owner has finished, with DELIVERs to n sites at most, or with an entry
-end-fast : (n : ℕ) (e pool logged finished : Bool) (u v v′ : ℕ) → (e ≡ true → (pool ≡ false) × (logged ≡ false) × (finished ≡ false)) → v′ ≤ v + n * bit e
-    → endOf n pool logged (cond e true finished) u v′ ≤ endOf n pool logged finished u v
-end-fast n true pool logged fin u v v′ h k = rw ((h refl) .0, (h refl) .1, (h refl) .2) (omega arith)
-end-fast n false pool logged fin u v v′ h k = omega (arith, end-falls n pool logged fin u v v′ false (λ t. absurd (nope t refl)) (omega arith))
-
-end-slow : (n : ℕ) (e out pool logged finished : Bool) (u v : ℕ) → (e ≡ true → (pool ≡ false) × (logged ≡ false) × (finished ≡ false) × (1 ≤ v))
-    → endOf n (cond (e && out) true pool) logged (cond e true finished) u v ≤ endOf n pool logged finished u v
-end-slow n true true pool logged fin u v h = let k = (h refl) .3 in rw ((h refl) .0, (h refl) .1, (h refl) .2) (omega arith)
-end-slow n true false pool logged fin u v h = rw ((h refl) .0, (h refl) .1, (h refl) .2) (omega arith)
-end-slow n false out pool logged fin u v h = omega arith
+end-finish : (n : ℕ) (e pool pool′ logged finished : Bool) (u v v′ : ℕ) → (e ≡ true → (pool ≡ false) × (logged ≡ false) × (finished ≡ false) × (1 ≤ v))
+    → (e ≡ false → pool′ ≡ pool) → v′ ≤ v + n * bit e → endOf n pool′ logged (cond e true finished) u v′ ≤ endOf n pool logged finished u v
+end-finish n true pool pool′ logged fin u v v′ h k le = let more = (h refl) .3 in rw ((h refl) .0, (h refl) .1, (h refl) .2) (ends pool′)
+  where
+    ends : (a : Bool) → endOf n a false true u v′ ≤ v + n
+    ends true = let more = (h refl) .3 in omega arith
+    ends false = omega arith
+end-finish n false pool pool′ logged fin u v v′ h k le =
+    rw (k refl) (omega (arith, end-falls n pool logged fin u v v′ false (λ t. absurd (nope t refl)) (omega arith)))
 
 -- the entry goes to the log; it is read
 end-order : (n : ℕ) (e pool logged logged′ finished : Bool) (u u′ v : ℕ) → (e ≡ true → (pool ≡ true) × (logged′ ≡ true)) → (e ≡ false → (logged′ ≡ logged) × (logged ≡ true → u′ ≤ u)) → u′ ≤ n
@@ -195,38 +190,13 @@ module _ (w : World) where
         omega arith
 
     -- the ends of a posting
-    pub fast-same : (m : ℕ) (c : Cut) → s .finished m ≡ false → s .oracle .pool m ≡ false → ¬ In m (s .oracle .log)
-        → potential (sendDeliver w (finish w s m) m (w .owner m) (toAll w c)) x ≤ potential s x
-    unfolding potential sendDeliver finish
-    fast-same m c open-m no-pool no-log =
-        let t = sendDeliver w (finish w s m) m (w .owner m) (toAll w c) in
-        let k = pairs-send (eqb m x) (s .delivers .sent x) (w .owner m) (toAll w c) (w .n) (w .n) (toAll-le c) in
-        let d = end-fast (w .n) (eqb m x) (s .oracle .pool x) (mem x (s .oracle .log)) (s .finished x) (unread s x) (owed s x) (owed t x) (λ e.
-        rw (← eqb-true m x e) (no-pool, not-false (mem m (s .oracle .log)) (λ h. no-log (mem-in m (s .oracle .log) h)), open-m)) (omega arith) in
-        omega arith
-
-    pub slow-same : (m : ℕ) (c : Cut) → 2 ≤ w .n → s .finished m ≡ false → s .oracle .pool m ≡ false → ¬ In m (s .oracle .log) → ((p : ℕ) → s .delivers .got p m ≡ false)
-        → potential (enterPool w (finish w s m) m c) x ≤ potential s x
-    unfolding potential enterPool finish
-    slow-same m c two open-m no-pool no-log none =
-        let d = end-slow (w .n) (eqb m x) (goes c (w .owner m)) (s .oracle .pool x) (mem x (s .oracle .log)) (s .finished x) (unread s x) (owed s x) (λ e.
-        rw (← eqb-true m x e) (no-pool, not-false (mem m (s .oracle .log)) (λ h. no-log (mem-in m (s .oracle .log) h)), open-m, more)) in
-        omega arith
-      where
-        more : 1 ≤ owed s m
-        more =
-            let k = all-unaware s m none in
-            let a : 0 < w .n - 1 = omega arith in
-            let b : 0 < unaware s m = omega arith in
-            omega (arith, mul-pos a b)
-
     pub takeDeliver-falls : (m r p : ℕ) → s .delivers .sent m r p ≡ true → s .oracle .pool m ≡ false → ¬ In m (s .oracle .log) → r < w .n → p < w .n
         → potential (takeDeliver w s m r p) x + bit (eqb m x) ≤ potential s x
     unfolding potential takeDeliver
     takeDeliver-falls m r p h no-pool no-log lr lp =
         let k = pairs-take (eqb m x) (s .delivers .sent x) r p (w .n) lr lp (λ t. rw (← eqb-true m x t) h) in
         let d = end-falls (w .n) (s .oracle .pool x) (mem x (s .oracle .log)) (s .finished x) (unread s x) (owed s x) (owed (takeDeliver w s m r p) x) (eqb m x) (λ e.
-        rw (← eqb-true m x e) (no-pool, not-false (mem m (s .oracle .log)) (λ h. no-log (mem-in m (s .oracle .log) h)))) (omega arith) in
+        rw (← eqb-true m x e) (no-pool, not-mem m (s .oracle .log) no-log)) (omega arith) in
         omega arith
 
     -- the first receipt: the owner sends nothing more, another site is aware of m and sends to all but itself
@@ -238,13 +208,12 @@ module _ (w : World) where
         (omega (arith, mul-le-mul-left (w .n - 1) k)) in
         omega arith
 
-    get-relay : (m p : ℕ) (c : Cut) → p < w .n → eqb p (w .owner m) ≡ false → s .delivers .got p m ≡ false
-        → potential (get w (sendDeliver w s m p (λ t. not (eqb p t) && toAll w c t)) m p) x ≤ potential s x
+    get-other : (m p : ℕ) (to : ℕ → Bool) → p < w .n → eqb p (w .owner m) ≡ false → s .delivers .got p m ≡ false → to p ≡ false
+        → potential (get w (sendDeliver w s m p to) m p) x ≤ potential s x
     unfolding potential get sendDeliver
-    get-relay m p c lp other fresh =
-        let to : ℕ → Bool = λ t. not (eqb p t) && toAll w c t in
+    get-other m p to lp other fresh self =
         let t = get w (sendDeliver w s m p to) m p in
-        let few = count-miss to p (w .n) lp (rw (eqb-yes p p refl)) in
+        let few = count-miss to p (w .n) lp self in
         let less : count to (w .n) ≤ w .n - 1 = omega arith in
         let a = pairs-send (eqb m x) (s .delivers .sent x) p to (w .n - 1) (w .n) less in
         let b = count-join (λ q. not (eqb q (w .owner x))) (λ q. s .delivers .got q x) (eqb m x) p (w .n) lp
@@ -253,10 +222,10 @@ module _ (w : World) where
         let d = end-falls (w .n) (s .oracle .pool x) (mem x (s .oracle .log)) (s .finished x) (unread s x) (owed s x) (owed t x) false (λ t. absurd (nope t refl)) (omega arith) in
         omega arith
 
-    pub relay-same : (m p : ℕ) (c : Cut) → p < w .n → s .delivers .got p m ≡ false → potential (get w (relay w s m p c) m p) x ≤ potential s x
-    relay-same m p c lp fresh =
-        either (λ t. potential (get w t m p) x ≤ potential s x) (eqb p (w .owner m)) s (sendDeliver w s m p (λ t. not (eqb p t) && toAll w c t))
-        (λ _. get-own m p) (λ other. get-relay m p c lp other fresh)
+    sendDeliver-pairs : (m p : ℕ) (to : ℕ → Bool) → count to (w .n) ≤ w .n
+        → pairs ((sendDeliver w s m p to) .delivers .sent x) (w .n) ≤ pairs (s .delivers .sent x) (w .n) + w .n * bit (eqb m x)
+    unfolding sendDeliver
+    sendDeliver-pairs m p to h = pairs-send (eqb m x) (s .delivers .sent x) p to (w .n) (w .n) h
 
     -- what a site keeps to itself
     pub deliverAt-same : (p : ℕ) (l : List ℕ) (c : Cut) → potential (deliverAt w s p l c) x ≡ potential s x
@@ -288,3 +257,53 @@ module _ (w : World) where
         (λ e. rw (← eqb-true (nextAt w s p) x e) (no-pool, in-mem (nextAt w s p) log (in-getD log (s .sites .place p) more)))
         (count-past (s .sites .place) p (index x log) (w .n) (eqb (nextAt w s p) x) lp (λ e. rw (← eqb-true (nextAt w s p) x e) (index-getD log (s .sites .place p) distinct more))) in
         omega arith
+
+  -- the named steps
+  conclude-pairs : (s : State) (x m : ℕ) (c : Cut) → pairs ((conclude w s m c) .delivers .sent x) (w .n) ≤ pairs (s .delivers .sent x) (w .n) + w .n * bit (eqb m x)
+  unfolding conclude enterPool
+  conclude-pairs s x m c =
+      either (λ (t : State). pairs (t .delivers .sent x) (w .n) ≤ pairs (s .delivers .sent x) (w .n) + w .n * bit (eqb m x)) (majority (λ r. s .thirds .has m r) (w .n)) _ _
+      (λ _. sendDeliver-pairs _ x m (w .owner m) _ (toAll-le c)) (λ _. le-add-right (pairs (s .delivers .sent x) (w .n)) (w .n * bit (eqb m x)))
+
+  module _ (s : State) (x : ℕ) where
+    -- the step that follows the (n - f)th SECOND pays for the THIRD
+    stepping-same : (m q p : ℕ) (c : Cut) → s .sets .stepped p m ≡ false → p < w .n → potential (sendThird w (step w (see w s m q) m p) m p c) x ≤ potential s x
+    stepping-same m q p c open-m lp =
+        let one = see w s m q in
+        let still : one .sets .stepped p m ≡ false = unfold see in open-m in
+        omega (arith, sendThird-rises (step w one m p) x m p c, step-falls one x m p still lp, see-same s x m q)
+
+    pub countSecond-same : (m p : ℕ) (c : Cut) → s .sets .stepped p m ≡ false → p < w .n → potential (countSecond w s m p c) x ≤ potential s x
+    unfolding countSecond
+    countSecond-same m p c open-m lp =
+        either (λ t. potential t x ≤ potential s x) (leb (w .n - w .f) (heardAt w s m p)) _ _ (λ _. stepping-same m _ p c open-m lp) (λ _. le-refl (potential s x))
+
+    -- finishing raises nothing: the owner's n pay for the DELIVERs, or with what the other sites would have sent for an entry
+    pub conclude-same : (m : ℕ) (c : Cut) → 2 ≤ w .n → s .finished m ≡ false → s .oracle .pool m ≡ false → ¬ In m (s .oracle .log) → ((p : ℕ) → s .delivers .got p m ≡ false)
+        → potential (conclude w (finish w s m) m c) x ≤ potential s x
+    unfolding potential finish
+    conclude-same m c two open-m no-pool no-log none =
+        after-conclude w (finish w s m) (λ t. (eqb m x ≡ false → t .oracle .pool x ≡ s .oracle .pool x)
+        → pairs (t .delivers .sent x) (w .n) ≤ pairs (s .delivers .sent x) (w .n) + w .n * bit (eqb m x) → potential t x ≤ potential s x) m c
+        (λ sent pool entry other few.
+        let d = end-finish (w .n) (eqb m x) (s .oracle .pool x) (pool x) (mem x (s .oracle .log)) (s .finished x) (unread s x) (owed s x)
+        (pairs (sent x) (w .n) + (w .n - 1) * unaware s x) (λ e. rw (← eqb-true m x e) (no-pool, not-mem m (s .oracle .log) no-log, open-m, more)) other (omega arith) in
+        omega arith)
+        (conclude-pool-other w (finish w s m) m c x) (conclude-pairs (finish w s m) x m c)
+      where
+        more : 1 ≤ owed s m
+        more =
+            let k = all-unaware s m none in
+            let a : 0 < w .n - 1 = omega arith in
+            let b : 0 < unaware s m = omega arith in
+            omega (arith, mul-pos a b)
+
+    relay-same : (m p : ℕ) (c : Cut) → p < w .n → s .delivers .got p m ≡ false → potential (get w (relay w s m p c) m p) x ≤ potential s x
+    unfolding relay
+    relay-same m p c lp fresh =
+        either (λ t. potential (get w t m p) x ≤ potential s x) (eqb p (w .owner m)) _ _
+        (λ _. get-own s x m p) (λ other. get-other s x m p _ lp other fresh (not-self p _))
+
+    pub arrive-same : (m p : ℕ) (c : Cut) → p < w .n → s .delivers .got p m ≡ false → potential (arrive w s m p c) x ≤ potential s x
+    unfolding arrive
+    arrive-same m p c lp fresh = subst (λ (k : ℕ). k ≤ potential s x) (sym (deliverAt-same _ x p _ _)) (relay-same m p c lp fresh)

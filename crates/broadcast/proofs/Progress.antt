@@ -2,25 +2,24 @@
 -- Rests on Live (L1 to L6), on DOWN (at most f sites are down) and on Records (R2, R3). Assumes nothing.
 use Prim.Native.Nat.{ℕ, zero, suc, _+_, _-_, _<_, _≤_}
 use mathlib.Core.Path.{_≡_, refl, sym, ap, _∙_, subst}
-use mathlib.Core.Logic.{_⊎_, inl, inr, _≢_}
-use mathlib.Core.Bool.{Bool, true, false, cond, not, _&&_, _||_}
-use mathlib.Core.List.{List, [], _∷_, _++_}
+use mathlib.Core.Logic.{inl, inr}
+use mathlib.Core.Bool.{Bool, true, false, cond, not}
+use mathlib.Core.List.{List, [], _∷_}
 use native.Mathlib.Omega.{arith}
-use lib.Dec.{eqb, ltb, leb}
-use lib.ListN.{length, take}
+use lib.Dec.{eqb}
 use lib.Seq.{take-all}
 use Rattle.broadcast.specs.Lists.{In, members}
-use Rattle.broadcast.specs.Counts.{bit, count, majority}
-use Rattle.broadcast.specs.Machine.{World, State, Cut, whole, part, goes, at3, toAll, entryOf, expand, down, downIf, sendFirst, takeFirst, see, sendSecond, hearSecond, takeSecond, step, sendThird, hearThird, takeThird, finish, sendDeliver, enterPool, takeDeliver, get, deliverAt, append, advance}
-use Rattle.broadcast.specs.Runs.{heardAt, heardOf, lateSecond, lateThird, onOffer, onFirst, onSecond, onThird, onDeliver, onOrder, onRead, countSecond, countThird, conclude, relay, nextAt, lost, MayCut, Receipt, Event, offer, first, second, third, order, read, crash, Allowed, does, blank, Reached, start, next, Quiet}
+use Rattle.broadcast.specs.Counts.{count}
+use Rattle.broadcast.specs.Machine.{World, State, Cut, whole, part, entryOf, expand, down, downIf, sendFirst, takeFirst, see, sendSecond, hearSecond, takeSecond, hearThird, takeThird, takeDeliver, deliverAt, append, advance}
+use Rattle.broadcast.specs.Runs.{lateSecond, lateThird, onOffer, onFirst, onSecond, onThird, onDeliver, onOrder, onRead, countSecond, countThird, arrive, nextAt, lost, MayCut, Event, offer, first, second, third, order, read, crash, Allowed, does, blank, Reached, start, next, Quiet}
 use Rattle.broadcast.proofs.Late.{second-late, third-late}
-use Rattle.broadcast.proofs.Tests.{test, nope, either, drops, eqb-yes, eqb-no, at2-refl, at3-refl, join-new, same-or}
+use Rattle.broadcast.proofs.Steps.{arrive-new, after-countSecond, after-countThird, after-arrive}
+use Rattle.broadcast.proofs.Tests.{test, nope, either, drops, eqb-yes, eqb-no, at2-refl, at3-refl, same-or}
 use Rattle.broadcast.proofs.Counts.{bit-le, count-ext, count-mono, count-not, count-none}
-use Rattle.broadcast.proofs.Lists.{in-left, in-right, in-members}
-use Rattle.broadcast.proofs.Ending.{won}
+use Rattle.broadcast.proofs.Lists.{in-left, in-right}
 use Rattle.broadcast.proofs.Safety.{Safe, safe}
-use Rattle.broadcast.proofs.Records.{Recorded, Records, RecordsOf, records}
-use Rattle.broadcast.proofs.Live.{Live, LiveAt, Comes, Full, live-less, live-offer, live-first, live-takeSecond, live-countSecond, live-takeThird, live-countThird, live-takeDeliver, live-arrive, live-append}
+use Rattle.broadcast.proofs.Records.{RecordsOf, in-expand, records}
+use Rattle.broadcast.proofs.Live.{LiveAt, Comes, Full, live-less, live-offer, live-first, live-takeSecond, live-countSecond, live-takeThird, live-countThird, live-takeDeliver, live-arrive, live-append}
 
 -- which sites are up after a step of p
 abbrev pub upAfter : Cut → (ℕ → Bool) → ℕ → ℕ → Bool
@@ -56,41 +55,6 @@ module _ (w : World) where
   settled whole s up p e i = subst (λ (v : ℕ → Bool). LiveAt w v s) (sym e) i
   settled (part out) s up p e i = unfold down in subst (λ (v : ℕ → Bool). LiveAt w (λ a. cond (eqb p a) false (v a)) s) (sym e) i
 
-  -- the small steps leave `up` alone
-  same-second : (s : State) (m p : ℕ) (c : Cut) → (countSecond w s m p c) .sites .up ≡ s .sites .up
-  same-second s m p c =
-      either (λ (t : State). t .sites .up ≡ s .sites .up) (leb (w .n - w .f) (heardAt w s m p)) (sendThird w (step w (see w s m p) m p) m p c) s
-      (λ _. unfold sendThird step see in refl) (λ _. refl)
-
-  same-third : (s : State) (m : ℕ) (c : Cut) → (countThird w s m c) .sites .up ≡ s .sites .up
-  same-third s m c =
-      let done = finish w s m in
-      either (λ (t : State). t .sites .up ≡ s .sites .up) (leb (w .n - w .f) (heardOf w s m)) (conclude w done m c) s
-      (λ _. either (λ (t : State). t .sites .up ≡ s .sites .up) (majority (λ r. done .thirds .has m r) (w .n)) (sendDeliver w done m (w .owner m) (toAll w c)) (enterPool w done m c)
-      (λ _. unfold sendDeliver finish in refl) (λ _. unfold enterPool finish in refl))
-      (λ _. refl)
-
-  pub same-relay : (s : State) (m p : ℕ) (c : Cut) → (relay w s m p c) .sites ≡ s .sites
-  same-relay s m p c =
-      let to : ℕ → Bool = λ t. not (eqb p t) && toAll w c t in
-      either (λ (t : State). t .sites ≡ s .sites) (eqb p (w .owner m)) s (sendDeliver w s m p to) (λ _. refl) (λ _. unfold sendDeliver in refl)
-
-  -- what was just heard is heard
-  second-heard : (s : State) (m r p : ℕ) (c : Cut) → (countSecond w (hearSecond w s m r p) m p c) .seconds .heard m r p ≡ true
-  second-heard s m r p c =
-      let one = hearSecond w s m r p in
-      either (λ (t : State). t .seconds .heard m r p ≡ true) (leb (w .n - w .f) (heardAt w one m p)) (sendThird w (step w (see w one m p) m p) m p c) one
-      (λ _. unfold sendThird step see hearSecond in rw (at3-refl m r p)) (λ _. unfold hearSecond in rw (at3-refl m r p))
-
-  third-heard : (s : State) (m r : ℕ) (c : Cut) → (countThird w (hearThird w s m r) m c) .thirds .heard m r ≡ true
-  third-heard s m r c =
-      let one = hearThird w s m r in
-      let done = finish w one m in
-      either (λ (t : State). t .thirds .heard m r ≡ true) (leb (w .n - w .f) (heardOf w one m)) (conclude w done m c) one
-      (λ _. either (λ (t : State). t .thirds .heard m r ≡ true) (majority (λ q. done .thirds .has m q) (w .n)) (sendDeliver w done m (w .owner m) (toAll w c)) (enterPool w done m c)
-      (λ _. unfold sendDeliver finish hearThird in rw (at2-refl m r)) (λ _. unfold enterPool finish hearThird in rw (at2-refl m r)))
-      (λ _. unfold hearThird in rw (at2-refl m r))
-
   -- the state of a step before its site may go down
   abbrev pub secondOf : State → ℕ → ℕ → ℕ → Cut → State
   secondOf s m r p c = takeSecond w (cond (lateSecond w s m r p) s (countSecond w (hearSecond w s m r p) m p c)) m r p
@@ -99,57 +63,57 @@ module _ (w : World) where
   thirdOf s m r c = takeThird w (cond (lateThird w s m r) s (countThird w (hearThird w s m r) m c)) m r
 
   abbrev pub deliverOf : State → ℕ → ℕ → ℕ → Cut → State
-  deliverOf s m r p c = takeDeliver w (cond (s .delivers .got p m) s (deliverAt w (get w (relay w s m p c) m p) p (m ∷ []) c)) m r p
+  deliverOf s m r p c = takeDeliver w (cond (s .delivers .got p m) s (arrive w s m p c)) m r p
 
   module _ (s : State) (j : Safe w s) (i : LiveOf s) where
     live-second : (m r p : ℕ) (c : Cut) → LiveAt w (upAfter c (s .sites .up) p) (secondOf s m r p c)
     live-second m r p c =
         let up = upAfter c (s .sites .up) p in
         let k = live-less w (s .sites .up) up s (up-before c (s .sites .up) p) i in
-        let one = countSecond w (hearSecond w s m r p) m p c in
-        either (λ (t : State). LiveAt w up (takeSecond w t m r p)) (lateSecond w s m r p) s one
+        let one = hearSecond w s m r p in
+        let heard : one .seconds .heard m r p ≡ true = unfold hearSecond in rw (at3-refl m r p) in
+        either (λ (t : State). LiveAt w up (takeSecond w t m r p)) (lateSecond w s m r p) _ _
         (λ late. live-takeSecond w up s k m r p (second-late w s m r p (i .answering .steps m p) late))
-        (λ _. live-takeSecond w up one (live-countSecond w up s k m r p c (all-out c (s .sites .up) p)) m r p (inl (second-heard s m r p c)))
+        (λ _. live-takeSecond w up _ (live-countSecond w up s k m r p c (all-out c (s .sites .up) p)) m r p
+        (inl (after-countSecond w one (λ t. t .seconds .heard m r p ≡ true) m p c (λ _ _ _. heard))))
 
     live-third : (m r : ℕ) (c : Cut) → LiveAt w (upAfter c (s .sites .up) (w .owner m)) (thirdOf s m r c)
     live-third m r c =
         let up = upAfter c (s .sites .up) (w .owner m) in
         let k = live-less w (s .sites .up) up s (up-before c (s .sites .up) (w .owner m)) i in
-        let one = countThird w (hearThird w s m r) m c in
-        either (λ (t : State). LiveAt w up (takeThird w t m r)) (lateThird w s m r) s one
+        let one = hearThird w s m r in
+        let heard : one .thirds .heard m r ≡ true = unfold hearThird in rw (at2-refl m r) in
+        either (λ (t : State). LiveAt w up (takeThird w t m r)) (lateThird w s m r) _ _
         (λ late. live-takeThird w up s k m r (third-late w s m r (i .reporting .ends m) late))
-        (λ _. live-takeThird w up one (live-countThird w up s k m r c (all-out c (s .sites .up) (w .owner m))) m r (inl (third-heard s m r c)))
+        (λ _. live-takeThird w up _ (live-countThird w up s k m r c (all-out c (s .sites .up) (w .owner m))) m r
+        (inl (after-countThird w one (λ t. t .thirds .heard m r ≡ true) m c (λ _ _ _ _. heard))))
 
-    pub live-deliver : (m r p : ℕ) (c : Cut) → p < w .n → s .delivers .sent m r p ≡ true → LiveAt w (upAfter c (s .sites .up) p) (deliverOf s m r p c)
+    live-deliver : (m r p : ℕ) (c : Cut) → p < w .n → s .delivers .sent m r p ≡ true → LiveAt w (upAfter c (s .sites .up) p) (deliverOf s m r p c)
     live-deliver m r p c lp here =
         let up = upAfter c (s .sites .up) p in
         let k = live-less w (s .sites .up) up s (up-before c (s .sites .up) p) i in
-        let one = get w (relay w s m p c) m p in
-        let arrived = live-arrive w up s k m p c lp (all-out c (s .sites .up) p) (j .ending .sent-fast m r p here) in
-        let two = deliverAt w one p (m ∷ []) c in
-        let got : two .delivers .got p m ≡ true = unfold deliverAt get in join-new ((relay w s m p c) .delivers .got) p m in
-        either (λ (t : State). LiveAt w up (takeDeliver w t m r p)) (s .delivers .got p m) s two
+        either (λ (t : State). LiveAt w up (takeDeliver w t m r p)) (s .delivers .got p m) _ _
         (λ known. live-takeDeliver w up s k m r p known)
-        (λ _. live-takeDeliver w up two (told arrived) m r p got)
-      where
-        told : LiveAt w (upAfter c (s .sites .up) p) (get w (relay w s m p c) m p)
-            → LiveAt w (upAfter c (s .sites .up) p) (deliverAt w (get w (relay w s m p c) m p) p (m ∷ []) c)
-        told h = unfold deliverAt in h
+        (λ _. live-takeDeliver w up _ (live-arrive w up s k m p c lp (all-out c (s .sites .up) p) (j .ending .sent-fast m r p here)) m r p (arrive-new w s m p c))
 
+  -- the steps leave `up` alone
   same-secondOf : (s : State) (m r p : ℕ) (c : Cut) → (secondOf s m r p c) .sites .up ≡ s .sites .up
+  unfolding takeSecond hearSecond
   same-secondOf s m r p c =
-      either (λ (t : State). (takeSecond w t m r p) .sites .up ≡ s .sites .up) (lateSecond w s m r p) s (countSecond w (hearSecond w s m r p) m p c)
-      (λ _. unfold takeSecond in refl) (λ _. unfold takeSecond hearSecond in same-second (hearSecond w s m r p) m p c)
+      either (λ (t : State). t .sites .up ≡ s .sites .up) (lateSecond w s m r p) _ _
+      (λ _. refl) (λ _. after-countSecond w (hearSecond w s m r p) (λ t. t .sites .up ≡ s .sites .up) m p c (λ _ _ _. refl))
 
   same-thirdOf : (s : State) (m r : ℕ) (c : Cut) → (thirdOf s m r c) .sites .up ≡ s .sites .up
+  unfolding takeThird hearThird
   same-thirdOf s m r c =
-      either (λ (t : State). (takeThird w t m r) .sites .up ≡ s .sites .up) (lateThird w s m r) s (countThird w (hearThird w s m r) m c)
-      (λ _. unfold takeThird in refl) (λ _. unfold takeThird hearThird in same-third (hearThird w s m r) m c)
+      either (λ (t : State). t .sites .up ≡ s .sites .up) (lateThird w s m r) _ _
+      (λ _. refl) (λ _. after-countThird w (hearThird w s m r) (λ t. t .sites .up ≡ s .sites .up) m c (λ _ _ _ _. refl))
 
   same-deliverOf : (s : State) (m r p : ℕ) (c : Cut) → (deliverOf s m r p c) .sites .up ≡ s .sites .up
+  unfolding takeDeliver
   same-deliverOf s m r p c =
-      either (λ (t : State). (takeDeliver w t m r p) .sites .up ≡ s .sites .up) (s .delivers .got p m) s (deliverAt w (get w (relay w s m p c) m p) p (m ∷ []) c)
-      (λ _. unfold takeDeliver in refl) (λ _. unfold takeDeliver deliverAt get in ap (λ v. v .up) (same-relay s m p c))
+      either (λ (t : State). t .sites .up ≡ s .sites .up) (s .delivers .got p m) _ _
+      (λ _. refl) (λ _. after-arrive w s (λ t. t .sites .up ≡ s .sites .up) m p c (λ _ _ _. refl))
 
   module _ (s : State) (j : Safe w s) (i : LiveOf s) where
     less-up : (c : Cut) (p : ℕ) → LiveAt w (upAfter c (s .sites .up) p) s
@@ -263,18 +227,13 @@ module _ (w : World) where
       delivered-all lt p lp u = elim (live .outcomes .outcome m ends-all up) [
         | inl h ↦ absurd (nope h (quiet .no-pool m))
         | inr h ↦ elim h [
-          | inl k ↦ has-log p m lp u (log-expand (s .oracle .log) k)
+          | inl k ↦ has-log p m lp u (in-expand w (s .oracle .entry) m m (s .oracle .log) k (unfold entryOf in in-right m (members (s .oracle .entry m) (w .bound)) (m ∷ []) (inl refl)))
           | inr k ↦ elim (k p lp) [
             | inl g ↦ absurd (nope g (quiet .no-deliver m (w .owner m) p (w .owned m) lp u))
             | inr g ↦ i .each p .all-got u m g
           ]
         ]
       ]
-        where
-          log-expand : (l : List ℕ) → In m l → In m (expand w (s .oracle .entry) l)
-          log-expand (x ∷ l) (inl e) = unfold entryOf in in-left m (members (s .oracle .entry x) (w .bound) ++ (x ∷ [])) (expand w (s .oracle .entry) l)
-              (in-right m (members (s .oracle .entry x) (w .bound)) (x ∷ []) (inl e))
-          log-expand (x ∷ l) (inr k) = in-right m (entryOf w (s .oracle .entry) x) (expand w (s .oracle .entry) l) (log-expand l k)
 
   -- The quiet clause: sites that are up have the same postings, among them all that they offered.
   pub record Agreed (s : State) : Type 0 where

@@ -1,24 +1,24 @@
 -- What a site's record says of the log (R1 to R4): no posting twice, all that the site has read, and of what did not come by
 -- DELIVER, only what it has read, in the log's order. Assumes nothing.
-use Prim.Native.Nat.{ℕ, zero, suc, _-_, _*_, _<_, _≤_}
+use Prim.Native.Nat.{ℕ, suc, _-_, _<_, _≤_}
 use mathlib.Core.Path.{_≡_, refl, sym, ap, _∙_}
-use mathlib.Core.Logic.{_⊎_, inl, inr, _≢_}
-use mathlib.Core.Bool.{Bool, true, false, cond, not, _&&_, _||_}
+use mathlib.Core.Logic.{_⊎_, inl, inr}
+use mathlib.Core.Bool.{Bool, true, false, cond, _&&_}
 use mathlib.Core.List.{List, [], _∷_, _++_, append-assoc, append-nil}
 use native.Mathlib.Omega.{arith}
 use lib.Dec.{eqb, leb}
 use lib.ListN.{length, take, drop, getD, length-append, take-append-drop}
 use lib.Seq.{take-suc, take-append-le}
-use Rattle.broadcast.specs.Lists.{In, NoRepeat, Before, mem, deliver, deliverAll}
-use Rattle.broadcast.specs.Counts.{count, majority}
-use Rattle.broadcast.specs.Machine.{World, Thirds, Oracle, Sites, State, Cut, whole, part, goes, lasts, at2, join, toAll, entryOf, expand, down, downIf, sendFirst, takeFirst, see, sendSecond, hearSecond, takeSecond, step, sendThird, hearThird, takeThird, finish, sendDeliver, enterPool, takeDeliver, get, deliverAt, append, advance}
-use Rattle.broadcast.specs.Runs.{heardAt, heardOf, lateSecond, lateThird, onOffer, onFirst, onSecond, onThird, onDeliver, onOrder, onRead, countSecond, countThird, conclude, relay, nextAt, Event, offer, first, second, third, order, read, crash, Allowed, does, blank, Reached, start, next}
+use Rattle.broadcast.specs.Lists.{In, NoRepeat, Before, mem, members, deliver, deliverAll}
+use Rattle.broadcast.specs.Machine.{World, Oracle, Sites, State, Cut, whole, part, at2, entryOf, expand, down, downIf, sendFirst, takeFirst, see, sendSecond, hearSecond, takeSecond, hearThird, takeThird, finish, takeDeliver, get, deliverAt, append, advance}
+use Rattle.broadcast.specs.Runs.{heardOf, lateSecond, lateThird, onOffer, onFirst, onSecond, onThird, onDeliver, onOrder, onRead, countThird, conclude, relay, arrive, Event, offer, first, second, third, order, read, crash, Allowed, does, blank, Reached, start, next}
 use Rattle.broadcast.proofs.Late.{third-in-time}
-use Rattle.broadcast.proofs.Tests.{test, nope, either, and-l, and-no, from, drops, join-cases, eqb-true, eqb-yes, eqb-no, eqb-false, ltb-true, ltb-yes, at2-true, leb-true, not-false, same-or}
-use Rattle.broadcast.proofs.Counts.{count-mono}
-use Rattle.broadcast.proofs.Lists.{mem-in, not-in, in-one, in-left, in-right, in-cases, before-append, before-join, norepeat-snoc, Ahead, ahead-part, ahead-last, deliver-old, deliver-new, deliver-cases, deliverAll-old, deliverAll-cases, members-ext}
+use Rattle.broadcast.proofs.Steps.{conclude-entry-other, after-countSecond, after-conclude, after-relay}
+use Rattle.broadcast.proofs.Tests.{test, nope, either, and-l, from, stays, eqb-true, eqb-yes, eqb-no, at2-true, not-false}
+use Rattle.broadcast.proofs.Counts.{count-mono, majority-more, more-majority}
+use Rattle.broadcast.proofs.Lists.{mem-in, not-in, in-one, in-left, in-right, in-cases, before-append, before-join, norepeat-snoc, Ahead, ahead-part, ahead-last, deliver-old, deliver-new, deliver-cases, deliverAll-old, deliverAll-cases, members-in, members-ext}
 use Rattle.broadcast.proofs.Tallies.{Tallies}
-use Rattle.broadcast.proofs.Ending.{Fast, won}
+use Rattle.broadcast.proofs.Ending.{won}
 use Rattle.broadcast.proofs.Safety.{Safe, safe}
 
 -- A record after the postings of a list were read; `fast` tells what may also have come by DELIVER.
@@ -100,6 +100,24 @@ module _ (w : World) where
   expand-ext e e′ [] h = refl
   expand-ext e e′ (m ∷ l) h = rw (h m (inl refl), expand-ext e e′ l (λ x k. h x (inr k)))
 
+  -- what an entry delivers: its posting, or one of its set; and what a list of entries does
+  pub entry-in : (entry : ℕ → ℕ → Bool) (m x : ℕ) → In x (entryOf w entry m) → (x ≡ m) ⊎ (entry m x ≡ true)
+  unfolding entryOf
+  entry-in entry m x h = elim (in-cases x (members (entry m) (w .bound)) (m ∷ []) h) [
+    | inl k ↦ inr ((members-in (entry m) x (w .bound) k) .1)
+    | inr k ↦ inl (in-one k)
+  ]
+
+  pub in-expand : (entry : ℕ → ℕ → Bool) (m x : ℕ) (log : List ℕ) → In m log → In x (entryOf w entry m) → In x (expand w entry log)
+  in-expand entry m x (y ∷ l) (inl e) h = in-left x (entryOf w entry y) (expand w entry l) (rw (← e) h)
+  in-expand entry m x (y ∷ l) (inr k) h = in-right x (entryOf w entry y) (expand w entry l) (in-expand entry m x l k h)
+
+  pub expand-in : (entry : ℕ → ℕ → Bool) (log : List ℕ) (x : ℕ) → In x (expand w entry log) → In x log ⊎ ((m : ℕ) × In m log × (entry m x ≡ true))
+  expand-in entry (m ∷ l) x h = elim (in-cases x (entryOf w entry m) (expand w entry l) h) [
+    | inl k ↦ elim (entry-in entry m x k) [ inl e ↦ inl (inl e) | inr q ↦ inr (m, inl refl, q) ]
+    | inr k ↦ elim (expand-in entry l x k) [ inl q ↦ inl (inr q) | inr q ↦ inr (q .0, inr (q .1), q .2) ]
+  ]
+
   abbrev pub RecordedIn : (ℕ → Bool) → (ℕ → ℕ → Bool) → Oracle → Sites → ℕ → Type 0
   RecordedIn fast got o v p = Recorded fast (expand w (o .entry) (o .log)) (expand w (o .entry) (take (v .place p) (o .log))) (v .up p) (got p) (v .delivered p)
 
@@ -123,10 +141,6 @@ module _ (w : World) where
     all-got = λ h. absurd (nope h refl);
   }
 
-  kept : (b g : Bool) → g ≡ true → cond b true g ≡ true
-  kept true g h = refl
-  kept false g h = h
-
   -- the site that b marks gets DELIVER m
   arrive-one : (b : Bool) (m : ℕ) (fast : ℕ → Bool) (log place : List ℕ) (up : Bool) (got : ℕ → Bool) (r : List ℕ) → fast m ≡ true
       → Recorded fast log place up got r
@@ -138,7 +152,7 @@ module _ (w : World) where
     split = i .split;
     reads = read-fast fast (i .done) r m fm (i .reads);
     came = λ x k. elim (deliver-cases r m x k) [
-      | inl h ↦ elim (i .came x h) [ inl g ↦ inl (kept (eqb m x) (got x) g) | inr d ↦ inr d ]
+      | inl h ↦ elim (i .came x h) [ inl g ↦ inl (stays (eqb m x) (got x) g) | inr d ↦ inr d ]
       | inr h ↦ inl (rw (eqb-yes m x (sym h)))
     ];
     all-read = i .all-read;
@@ -239,32 +253,33 @@ module _ (w : World) where
 
         more : (x : ℕ) → won w (s .thirds) x ≡ true → won w ((hearThird w s m r) .thirds) x ≡ true
         more x h =
-            let many = ltb-true (w .n) (2 * count (λ q. s .thirds .has x q) (w .n)) h in
+            let many = majority-more (λ q. s .thirds .has x q) (w .n) h in
             let grows = count-mono (λ q. s .thirds .has x q) (λ q. (hearThird w s m r) .thirds .has x q) (w .n) (λ q _. keeps x q) in
-            ltb-yes (w .n) (2 * count (λ q. (hearThird w s m r) .thirds .has x q) (w .n)) (omega arith)
+            more-majority (λ q. (hearThird w s m r) .thirds .has x q) (w .n) (omega arith)
 
-    -- an entry joins the pool: the log's entries stay
-    records-enterPool : (m : ℕ) (c : Cut) → ¬ In m (s .oracle .log) → RecordsOf (enterPool w s m c)
-    unfolding enterPool
-    records-enterPool m c not-log = record {
-      places = i .places;
-      each = λ a.
-          let old = i .each a in
-          record {
-            done = old .done;
-            rest = old .rest;
-            split = same (s .oracle .log) (λ x k. k) ∙ old .split;
-            reads = old .reads;
-            came = old .came;
-            all-read = λ u. old .all-read u ∙ sym (same (take (s .sites .place a) (s .oracle .log)) (λ x k. rw (take-append-drop (s .sites .place a) (s .oracle .log)) at (in-left x (take (s .sites .place a) (s .oracle .log)) (drop (s .sites .place a) (s .oracle .log)) k)));
-            all-got = old .all-got;
-          };
-    }
-      where
-        same : (l : List ℕ) → ((x : ℕ) → In x l → In x (s .oracle .log)) → expand w ((enterPool w s m c) .oracle .entry) l ≡ expand w (s .oracle .entry) l
-        same l sub = expand-ext (s .oracle .entry) ((enterPool w s m c) .oracle .entry) l (λ x k.
-            let off : eqb m x && goes c (w .owner m) ≡ false = rw (eqb-no m x (λ e. not-log (rw e (sub x k)))) in
-            entry-ext (s .oracle .entry) ((enterPool w s m c) .oracle .entry) x (λ y. rw off))
+    -- m is finished: the log's entries stay
+    records-conclude : (m : ℕ) (c : Cut) → ¬ In m (s .oracle .log) → RecordsOf (conclude w s m c)
+    records-conclude m c not-log =
+        after-conclude w s (λ t. ((x y : ℕ) → eqb m x ≡ false → t .oracle .entry x y ≡ s .oracle .entry x y) → RecordsOf t) m c
+        (λ sent pool entry other. record {
+          places = i .places;
+          each = λ a.
+              let old = i .each a in
+              let log = s .oracle .log in
+              let past = take (s .sites .place a) log in
+              let same : (l : List ℕ) → ((x : ℕ) → In x l → In x log) → expand w entry l ≡ expand w (s .oracle .entry) l = λ l sub.
+              expand-ext (s .oracle .entry) entry l (λ x k. entry-ext (s .oracle .entry) entry x (λ y. other x y (eqb-no m x (λ e. not-log (rw e (sub x k)))))) in
+              record {
+                done = old .done;
+                rest = old .rest;
+                split = same log (λ x k. k) ∙ old .split;
+                reads = old .reads;
+                came = old .came;
+                all-read = λ u. old .all-read u ∙ sym (same past (λ x k. rw (take-append-drop (s .sites .place a) log) at (in-left x past (drop (s .sites .place a) log) k)));
+                all-got = old .all-got;
+              };
+        })
+        (λ x y. conclude-entry-other w s m c x y)
 
     -- an entry joins the log
     records-append : (m : ℕ) → RecordsOf (append w s m)
@@ -284,20 +299,36 @@ module _ (w : World) where
           };
     }
 
-    -- DELIVER m is got at p for the first time, whole or cut
-    records-arrive : (m r p : ℕ) (c : Cut) → won w (s .thirds) m ≡ true
-        → RecordsOf (downIf w c (takeDeliver w (deliverAt w (get w s m p) p (m ∷ []) c) m r p) p)
-    records-arrive m r p whole fast = unfold takeDeliver deliverAt get in record {
+    -- DELIVER m is got at p and m is delivered there; or p goes down, whether it has delivered m or not
+    records-get : (m r p : ℕ) → won w (s .thirds) m ≡ true → RecordsOf (takeDeliver w (deliverAt w (get w s m p) p (m ∷ []) whole) m r p)
+    unfolding takeDeliver deliverAt get
+    records-get m r p fast = record {
       places = i .places;
       each = λ a. arrive-one (eqb p a) m _ _ _ (s .sites .up a) (s .delivers .got a) (s .sites .delivered a) fast (i .each a);
     }
-    records-arrive m r p (part out) fast = unfold takeDeliver deliverAt get down in record {
+
+  module _ (s : State) (i : RecordsOf s) where
+    records-cut : (m r p : ℕ) (c : Cut) → won w (s .thirds) m ≡ true → RecordsOf (down w (takeDeliver w (deliverAt w (get w s m p) p (m ∷ []) c) m r p) p)
+    records-cut m r p whole fast = records-down _ (records-get s i m r p fast) p
+    records-cut m r p (part out) fast = unfold takeDeliver deliverAt get down in record {
       places = i .places;
       each = λ a. cut-one (eqb p a) _ _ _ (s .sites .up a) (s .delivers .got a) (λ x. cond (at2 p m a x) true (s .delivers .got a x)) (s .sites .delivered a)
-          (λ x h. kept (at2 p m a x) (s .delivers .got a x) h)
+          (λ x h. stays (at2 p m a x) (s .delivers .got a x) h)
           (λ e x h. elim (from (at2 p m a x) true (s .delivers .got a x) h) [ inl u ↦ absurd (nope (and-l (eqb p a) (eqb m x) (u .0)) e) | inr o ↦ o ])
           (i .each a);
     }
+
+  module _ (s : State) (i : RecordsOf s) where
+    records-relay : (m p : ℕ) (c : Cut) → RecordsOf (relay w s m p c)
+    records-relay m p c = after-relay w s RecordsOf m p c (λ _. i)
+
+    relay-won : (m p : ℕ) (c : Cut) → won w (s .thirds) m ≡ true → won w ((relay w s m p c) .thirds) m ≡ true
+    relay-won m p c fast = after-relay w s (λ t. won w (t .thirds) m ≡ true) m p c (λ _. fast)
+
+    records-arrive : (m r p : ℕ) (c : Cut) → won w (s .thirds) m ≡ true → RecordsOf (downIf w c (takeDeliver w (arrive w s m p c) m r p) p)
+    unfolding arrive
+    records-arrive m r p whole fast = records-get _ (records-relay m p whole) m r p (relay-won m p whole fast)
+    records-arrive m r p (part out) fast = records-cut _ (records-relay m p (part out)) m r p _ (relay-won m p (part out) fast)
 
     -- a reading at p, whole or cut
     records-read : (p : ℕ) (c : Cut) → s .sites .up p ≡ true → s .sites .place p < length (s .oracle .log) → RecordsOf (onRead w s p c)
@@ -314,54 +345,30 @@ module _ (w : World) where
   -- the events
   module _ (s : State) (j : Safe w s) (i : RecordsOf s) where
     records-second : (m r p : ℕ) (c : Cut) → RecordsOf (onSecond w s m r p c)
-    unfolding onSecond
+    unfolding onSecond takeSecond hearSecond
     records-second m r p c =
-        let one = hearSecond w s m r p in
-        let two = step w (see w one m p) m p in
-        let heard : RecordsOf one = unfold hearSecond in i in
-        let stepped : RecordsOf (sendThird w two m p c) = unfold sendThird step see hearSecond in i in
-        let late = lateSecond w s m r p in
-        let out = cond late s (countSecond w one m p c) in
-        let k : RecordsOf out = either RecordsOf late s (countSecond w one m p c) (λ _. i) (λ _.
-        either RecordsOf (leb (w .n - w .f) (heardAt w one m p)) (sendThird w two m p c) one (λ _. stepped) (λ _. heard)) in
-        records-downIf (takeSecond w out m r p) (taken out k) c p
-      where
-        taken : (t : State) → RecordsOf t → RecordsOf (takeSecond w t m r p)
-        taken t h = unfold takeSecond in h
+        records-downIf _ (either RecordsOf (lateSecond w s m r p) _ _ (λ _. i) (λ _. after-countSecond w _ RecordsOf m p c (λ _ _ _. i))) c p
 
     records-third : (m r : ℕ) (c : Cut) → s .thirds .sent m r ≡ true → RecordsOf (onThird w s m r c)
     unfolding onThird
     records-third m r c here =
-        let one = hearThird w s m r in
-        let late = lateThird w s m r in
-        let out = cond late s (countThird w one m c) in
-        let k : RecordsOf out = either RecordsOf late s (countThird w one m c) (λ _. i) (λ t.
+        records-downIf _ (taken _ (either RecordsOf (lateThird w s m r) _ _ (λ _. i) (λ t.
         let (fresh, open-m) = third-in-time w s m r t in
-        let heard = records-hearThird s i (j .tallies) m r fresh in
-        let done = finish w one m in
-        let ended : RecordsOf done = unfold finish in heard in
-        let not-log : ¬ In m (done .oracle .log) = unfold finish hearThird in λ h. nope (j .ending .log-slow m h .done) open-m in
-        either RecordsOf (leb (w .n - w .f) (heardOf w one m)) (conclude w done m c) one
-        (λ _. either RecordsOf (majority (λ q. done .thirds .has m q) (w .n)) (sendDeliver w done m (w .owner m) (toAll w c)) (enterPool w done m c)
-        (λ _. unfold sendDeliver in ended)
-        (λ _. records-enterPool done ended m c not-log))
-        (λ _. heard)) in
-        records-downIf (takeThird w out m r) (taken out k) c (w .owner m)
+        counted (hearThird w s m r) (records-hearThird s i (j .tallies) m r fresh) (unfold hearThird in λ h. nope (j .ending .log-slow m h .done) open-m)))) c (w .owner m)
       where
         taken : (t : State) → RecordsOf t → RecordsOf (takeThird w t m r)
         taken t h = unfold takeThird in h
 
+        counted : (t : State) → RecordsOf t → ¬ In m (t .oracle .log) → RecordsOf (countThird w t m c)
+        counted t h not-log = unfold countThird in either RecordsOf (leb (w .n - w .f) (heardOf w t m)) _ _
+            (λ _. records-conclude (finish w t m) (unfold finish in h) m c (unfold finish in not-log)) (λ _. h)
+
     records-deliver : (m r p : ℕ) (c : Cut) → s .delivers .sent m r p ≡ true → RecordsOf (onDeliver w s m r p c)
     unfolding onDeliver
     records-deliver m r p c here =
-        let fast = j .ending .sent-fast m r p here .most in
-        let to : ℕ → Bool = λ t. not (eqb p t) && toAll w c t in
-        let arrive : State → State = λ t. deliverAt w (get w t m p) p (m ∷ []) c in
-        either (λ t. RecordsOf (downIf w c (takeDeliver w t m r p) p)) (s .delivers .got p m) s (arrive (relay w s m p c))
+        either (λ t. RecordsOf (downIf w c (takeDeliver w t m r p) p)) (s .delivers .got p m) _ _
         (λ _. records-downIf (takeDeliver w s m r p) (unfold takeDeliver in i) c p)
-        (λ _. either (λ t. RecordsOf (downIf w c (takeDeliver w (arrive t) m r p) p)) (eqb p (w .owner m)) s (sendDeliver w s m p to)
-        (λ _. records-arrive s i m r p c fast)
-        (λ _. records-arrive (sendDeliver w s m p to) (unfold sendDeliver in i) m r p c (unfold sendDeliver in fast)))
+        (λ _. records-arrive s i m r p c (j .ending .sent-fast m r p here .most))
 
     records-does : (e : Event) → Allowed w s e → RecordsOf (does w s e)
     records-does (offer m c) ok = unfold onOffer in records-downIf (sendFirst w s m c) (unfold sendFirst in i) c (w .owner m)

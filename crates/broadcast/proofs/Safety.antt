@@ -1,20 +1,20 @@
 -- Every state that a run reaches is safe: the invariants of Voting, Tallies and Ending hold, and nothing names a posting that was
 -- not offered (N0). Each small step keeps them, each event is a composition of small steps. Assumes nothing.
 use Prim.Native.Nat.{ℕ, _-_, _<_, _≤_}
-use mathlib.Core.Path.{_≡_, refl, sym, ap, _∙_}
-use mathlib.Core.Logic.{_⊎_, inl, inr}
-use mathlib.Core.Bool.{Bool, true, false, cond, not, _&&_, _||_}
-use mathlib.Core.List.{List, [], _∷_}
+use mathlib.Core.Path.{_≡_, refl, sym, _∙_}
+use mathlib.Core.Logic.{inl, inr}
+use mathlib.Core.Bool.{Bool, true, false, _&&_}
+use mathlib.Core.List.{List}
 use lib.Dec.{eqb, leb}
 use Rattle.broadcast.specs.Lists.{In}
-use Rattle.broadcast.specs.Counts.{count, majority}
-use Rattle.broadcast.specs.Machine.{World, State, Cut, whole, part, at2, at3, with, toAll, goes, down, downIf, sendFirst, takeFirst, see, sendSecond, hearSecond, takeSecond, step, sendThird, hearThird, takeThird, finish, sendDeliver, enterPool, takeDeliver, get, deliverAt, append, advance, entryOf}
-use Rattle.broadcast.specs.Runs.{heardAt, heardOf, lateSecond, lateThird, onOffer, onFirst, onSecond, onThird, onDeliver, onOrder, onRead, countSecond, countThird, conclude, relay, nextAt, Event, offer, first, second, third, deliver, order, read, crash, Allowed, does, blank, Reached, start, next}
+use Rattle.broadcast.specs.Machine.{World, State, Cut, whole, part, at2, at3, toAll, down, downIf, sendFirst, takeFirst, see, sendSecond, hearSecond, takeSecond, step, sendThird, hearThird, takeThird, finish, sendDeliver, takeDeliver, get, deliverAt, append, advance}
+use Rattle.broadcast.specs.Runs.{heardAt, heardOf, lateSecond, lateThird, onOffer, onFirst, onSecond, onThird, onDeliver, onOrder, onRead, countSecond, countThird, conclude, relay, arrive, Event, offer, first, second, third, deliver, order, read, crash, Allowed, does, blank, Reached, start, next}
 use Rattle.broadcast.proofs.Late.{second-in-time, third-in-time}
-use Rattle.broadcast.proofs.Tests.{test, nope, either, and-l, eqb-true, eqb-yes, at2-true, from, stays, drops, join-new, leb-true, not-false, true-T}
-use Rattle.broadcast.proofs.Voting.{Voting, offer-voting, see-voting, sendSecond-voting, hearSecond-voting, takeSecond-voting, step-voting}
+use Rattle.broadcast.proofs.Steps.{see-new, step-new, finish-new, after-conclude, after-relay}
+use Rattle.broadcast.proofs.Tests.{nope, either, and-l, eqb-true, eqb-yes, at2-true, from, stays, drops, leb-true, not-false}
+use Rattle.broadcast.proofs.Voting.{Voting, offer-voting, see-voting, sendSecond-voting, hearSecond-voting, takeSecond-voting, step-voting, countSecond-seen}
 use Rattle.broadcast.proofs.Tallies.{Tallies, step-tallies, sendThird-tallies, hearThird-tallies, takeThird-tallies}
-use Rattle.broadcast.proofs.Ending.{Ending, Fast, Slow, won, hearThird-ending, finish-ending, sendDeliver-ending, enterPool-ending, takeDeliver-ending, get-ending, append-ending}
+use Rattle.broadcast.proofs.Ending.{Ending, EndingOf, Fast, hearThird-ending, flight-ending, finish-ending, sendDeliver-ending, conclude-ending, takeDeliver-ending, get-ending, append-ending}
 
 module _ (w : World) where
   pub record Safe (s : State) : Type 0 where
@@ -144,26 +144,14 @@ module _ (w : World) where
     }
 
     safe-sendThird : (m p : ℕ) (c : Cut) → s .sets .stepped p m ≡ true → Safe (sendThird w s m p c)
+    unfolding sendThird
     safe-sendThird m p c h = record {
-      voting = unfold sendThird in i .voting;
-      tallies = unfold sendThird in sendThird-tallies w s (i .tallies) m p c h;
-      ending = unfold sendThird in record {
-        sent-fast = λ x a b k. thirds-fast x (i .ending .sent-fast x a b k);
-        got-fast = λ x a k. thirds-fast x (i .ending .got-fast x a k);
-        pool-slow = λ x k. thirds-slow x (i .ending .pool-slow x k);
-        log-slow = λ x k. thirds-slow x (i .ending .log-slow x k);
-        pool-log = i .ending .pool-log;
-        log-once = i .ending .log-once;
-      };
-      first-named = unfold sendThird in i .first-named;
-      finished-named = unfold sendThird in i .finished-named;
+      voting = i .voting;
+      tallies = sendThird-tallies w s (i .tallies) m p c h;
+      ending = flight-ending w (s .thirds) _ (s .finished) (s .delivers) (s .oracle) (λ _ _. refl) (λ _ _. refl) (λ _ _. refl) (i .ending);
+      first-named = i .first-named;
+      finished-named = i .finished-named;
     }
-      where
-        thirds-fast : (x : ℕ) → FastIn s x → Fast w ((sendThird w s m p c) .thirds) (s .finished) (s .oracle) x
-        thirds-fast x k = unfold sendThird in record { done = k .done; most = k .most; no-pool = k .no-pool; no-log = k .no-log }
-
-        thirds-slow : (x : ℕ) → Slow w (s .thirds) (s .finished) (s .oracle) x → Slow w ((sendThird w s m p c) .thirds) (s .finished) (s .oracle) x
-        thirds-slow x k = unfold sendThird in record { done = k .done; most = k .most; union = k .union }
 
     safe-hearThird : (m r : ℕ) → s .thirds .sent m r ≡ true → s .finished m ≡ false → Safe (hearThird w s m r)
     unfolding hearThird
@@ -176,26 +164,14 @@ module _ (w : World) where
     }
 
     safe-takeThird : (m r : ℕ) → Safe (takeThird w s m r)
+    unfolding takeThird
     safe-takeThird m r = record {
-      voting = unfold takeThird in i .voting;
-      tallies = unfold takeThird in takeThird-tallies w s (i .tallies) m r;
-      ending = unfold takeThird in record {
-        sent-fast = λ x a b k. thirds-fast x (i .ending .sent-fast x a b k);
-        got-fast = λ x a k. thirds-fast x (i .ending .got-fast x a k);
-        pool-slow = λ x k. thirds-slow x (i .ending .pool-slow x k);
-        log-slow = λ x k. thirds-slow x (i .ending .log-slow x k);
-        pool-log = i .ending .pool-log;
-        log-once = i .ending .log-once;
-      };
-      first-named = unfold takeThird in i .first-named;
-      finished-named = unfold takeThird in i .finished-named;
+      voting = i .voting;
+      tallies = takeThird-tallies w s (i .tallies) m r;
+      ending = flight-ending w (s .thirds) _ (s .finished) (s .delivers) (s .oracle) (λ _ _. refl) (λ _ _. refl) (λ _ _. refl) (i .ending);
+      first-named = i .first-named;
+      finished-named = i .finished-named;
     }
-      where
-        thirds-fast : (x : ℕ) → FastIn s x → Fast w ((takeThird w s m r) .thirds) (s .finished) (s .oracle) x
-        thirds-fast x k = unfold takeThird in record { done = k .done; most = k .most; no-pool = k .no-pool; no-log = k .no-log }
-
-        thirds-slow : (x : ℕ) → Slow w (s .thirds) (s .finished) (s .oracle) x → Slow w ((takeThird w s m r) .thirds) (s .finished) (s .oracle) x
-        thirds-slow x k = unfold takeThird in record { done = k .done; most = k .most; union = k .union }
 
     safe-finish : (m : ℕ) → s .offered m ≡ true → Safe (finish w s m)
     unfolding finish
@@ -217,16 +193,13 @@ module _ (w : World) where
       finished-named = i .finished-named;
     }
 
-    safe-enterPool : (m : ℕ) (c : Cut) → s .finished m ≡ true → w .n - w .f ≤ heardOf w s m → ¬ FastIn s m → ¬ In m (s .oracle .log)
-        → Safe (enterPool w s m c)
-    unfolding enterPool
-    safe-enterPool m c fin many not-fast not-log = record {
-      voting = i .voting;
-      tallies = i .tallies;
-      ending = enterPool-ending w s (i .ending) m c fin many not-fast not-log;
-      first-named = i .first-named;
-      finished-named = i .finished-named;
-    }
+    -- the owner finishes m, which was open
+    safe-conclude : (m : ℕ) (c : Cut) → s .finished m ≡ true → w .n - w .f ≤ heardOf w s m → s .oracle .pool m ≡ false → ¬ In m (s .oracle .log)
+        → Safe (conclude w s m c)
+    safe-conclude m c done many no-pool no-log =
+        after-conclude w s (λ t. EndingOf w t → Safe t) m c
+        (λ sent pool entry k. record { voting = i .voting; tallies = i .tallies; ending = k; first-named = i .first-named; finished-named = i .finished-named })
+        (conclude-ending w s (i .ending) m c done many no-pool no-log)
 
     safe-takeDeliver : (m r p : ℕ) → Safe (takeDeliver w s m r p)
     unfolding takeDeliver
@@ -275,91 +248,75 @@ module _ (w : World) where
     safe-downIf whole p = i
     safe-downIf (part out) p = safe-down p
 
+  -- p steps what it has seen, and sends THIRD
+  safe-stepping : (s : State) → Safe s → (m p : ℕ) (c : Cut) → (sendThird w (step w s m p) m p c) .sets .seen p m ≡ true → Safe (sendThird w (step w s m p) m p c)
+  safe-stepping s i m p c seen = safe-sendThird _ (safe-step s i m p (unfold sendThird step in seen)) m p c (step-new w s m p)
+
   -- the events
   module _ (s : State) (i : Safe s) where
     safe-first : (m r p : ℕ) (c : Cut) → s .firsts m r p ≡ true → Safe (onFirst w s m r p c)
     unfolding onFirst
     safe-first m r p c h =
-        let one = takeFirst w s m r p in
-        let known : one .offered m ≡ true = unfold takeFirst in i .first-named m r p h in
-        let seen : (see w one m p) .sets .seen p m ≡ true = unfold see in join-new (one .sets .seen) p m in
-        let two = safe-see one (safe-takeFirst s i m r p) m p known in
-        safe-downIf (sendSecond w (see w one m p) m p c) (safe-sendSecond (see w one m p) two m p c seen) c p
+        let known : (takeFirst w s m r p) .offered m ≡ true = unfold takeFirst in i .first-named m r p h in
+        let two = safe-see _ (safe-takeFirst s i m r p) m p known in
+        safe-downIf _ (safe-sendSecond _ two m p c (see-new w _ m p)) c p
 
     safe-countSecond : (m p : ℕ) (c : Cut) → s .offered m ≡ true → Safe (countSecond w s m p c)
+    unfolding countSecond
     safe-countSecond m p c known =
-        let one = see w s m p in
-        let seen : one .sets .seen p m ≡ true = unfold see in join-new (s .sets .seen) p m in
-        let two = step w one m p in
-        let stepped : two .sets .stepped p m ≡ true = unfold step in join-new (one .sets .stepped) p m in
-        either Safe (leb (w .n - w .f) (heardAt w s m p)) (sendThird w two m p c) s
-        (λ _. safe-sendThird two (safe-step one (safe-see s i m p known) m p seen) m p c stepped)
+        either Safe (leb (w .n - w .f) (heardAt w s m p)) _ _
+        (λ last. safe-stepping _ (safe-see s i m _ known) m p c (rw (last, countSecond) at (countSecond-seen w s m p c last)))
         (λ _. i)
 
-    safe-conclude : (m : ℕ) (c : Cut) → s .offered m ≡ true → s .finished m ≡ false → w .n - w .f ≤ heardOf w s m → Safe (conclude w (finish w s m) m c)
-    safe-conclude m c known open-m many =
-        let one = finish w s m in
-        let done : one .finished m ≡ true = unfold finish in rw (eqb-yes m m refl) in
-        let not-pool : one .oracle .pool m ≡ false = unfold finish in not-false (s .oracle .pool m) (λ h. nope (i .ending .pool-slow m h .done) open-m) in
-        let not-log : ¬ In m (one .oracle .log) = unfold finish in λ h. nope (i .ending .log-slow m h .done) open-m in
-        let enough : w .n - w .f ≤ heardOf w one m = unfold finish in many in
-        let j = safe-finish s i m known in
-        either Safe (majority (λ r. one .thirds .has m r) (w .n)) (sendDeliver w one m (w .owner m) (toAll w c)) (enterPool w one m c)
-        (λ t. safe-sendDeliver one j m (w .owner m) (toAll w c) (record { done = done; most = t; no-pool = not-pool; no-log = not-log }))
-        (λ t. safe-enterPool one j m c done enough (λ h. nope (h .most) t) not-log)
+    safe-countThird : (m : ℕ) (c : Cut) → s .offered m ≡ true → s .finished m ≡ false → Safe (countThird w s m c)
+    unfolding countThird
+    safe-countThird m c known open-m =
+        let no-pool : (finish w s m) .oracle .pool m ≡ false = unfold finish in not-false (s .oracle .pool m) (λ h. nope (i .ending .pool-slow m h .done) open-m) in
+        let no-log : ¬ In m ((finish w s m) .oracle .log) = unfold finish in λ h. nope (i .ending .log-slow m h .done) open-m in
+        either Safe (leb (w .n - w .f) (heardOf w s m)) _ _
+        (λ t.
+        let many : w .n - w .f ≤ heardOf w (finish w s m) m = unfold finish in leb-true (w .n - w .f) (heardOf w s m) t in
+        safe-conclude _ (safe-finish s i m known) m c (finish-new w s m) many no-pool no-log)
+        (λ _. i)
 
-    safe-relay : (m p : ℕ) (c : Cut) → FastIn s m → Safe (relay w s m p c) × FastIn (relay w s m p c) m
-    safe-relay m p c h =
-        let to : ℕ → Bool = λ t. not (eqb p t) && toAll w c t in
-        either (λ t. Safe t × FastIn t m) (eqb p (w .owner m)) s (sendDeliver w s m p to)
-        (λ _. (i, h))
-        (λ _. (safe-sendDeliver s i m p to h, unfold sendDeliver in h))
+    safe-relay : (m p : ℕ) (c : Cut) → FastIn s m → Safe (relay w s m p c)
+    unfolding relay
+    safe-relay m p c h = either Safe (eqb p (w .owner m)) _ _ (λ _. i) (λ _. safe-sendDeliver s i m p _ h)
+
+    safe-arrive : (m p : ℕ) (c : Cut) → FastIn s m → Safe (arrive w s m p c)
+    unfolding arrive
+    safe-arrive m p c h =
+        safe-deliverAt _ (safe-get _ (safe-relay m p c h) m p (after-relay w s (λ t. FastIn t m) m p c (λ _. h))) p _ _
 
   module _ (s : State) (i : Safe s) where
     safe-second : (m r p : ℕ) (c : Cut) → s .seconds .sent m r p ≡ true → Safe (onSecond w s m r p c)
     unfolding onSecond
     safe-second m r p c here =
-        let one = hearSecond w s m r p in
-        let known : one .offered m ≡ true = unfold hearSecond in second-named s i m r p here in
-        let late = lateSecond w s m r p in
-        let after = countSecond w one m p c in
-        let j = either Safe late s after (λ _. i) (λ t.
-        safe-countSecond one (safe-hearSecond s i m r p here ((second-in-time w s m r p t) .0)) m p c known) in
-        safe-downIf (takeSecond w (cond late s after) m r p) (safe-takeSecond (cond late s after) j m r p) c p
+        let known : (hearSecond w s m r p) .offered m ≡ true = unfold hearSecond in second-named s i m r p here in
+        safe-downIf _ (safe-takeSecond _ (either Safe (lateSecond w s m r p) _ _ (λ _. i) (λ t.
+        safe-countSecond _ (safe-hearSecond s i m r p here ((second-in-time w s m r p t) .0)) m p c known)) m r p) c p
 
     safe-third : (m r : ℕ) (c : Cut) → s .thirds .sent m r ≡ true → Safe (onThird w s m r c)
     unfolding onThird
     safe-third m r c here =
-        let one = hearThird w s m r in
-        let known : one .offered m ≡ true = unfold hearThird in third-named s i m r here in
-        let late = lateThird w s m r in
-        let after = countThird w one m c in
-        let j = either Safe late s after (λ _. i) (λ t.
+        let known : (hearThird w s m r) .offered m ≡ true = unfold hearThird in third-named s i m r here in
+        safe-downIf _ (safe-takeThird _ (either Safe (lateThird w s m r) _ _ (λ _. i) (λ t.
         let open-m = (third-in-time w s m r t) .1 in
-        let still : one .finished m ≡ false = unfold hearThird in open-m in
-        let k = safe-hearThird s i m r here open-m in
-        either Safe (leb (w .n - w .f) (heardOf w one m)) (conclude w (finish w one m) m c) one
-        (λ u. safe-conclude one k m c known still (leb-true (w .n - w .f) (heardOf w one m) u))
-        (λ _. k)) in
-        safe-downIf (takeThird w (cond late s after) m r) (safe-takeThird (cond late s after) j m r) c (w .owner m)
+        safe-countThird _ (safe-hearThird s i m r here open-m) m c known (unfold hearThird in open-m))) m r) c (w .owner m)
 
     safe-deliver : (m r p : ℕ) (c : Cut) → s .delivers .sent m r p ≡ true → Safe (onDeliver w s m r p c)
     unfolding onDeliver
     safe-deliver m r p c here =
-        let (k, h) = safe-relay s i m p c (i .ending .sent-fast m r p here) in
-        let one = get w (relay w s m p c) m p in
-        let after = deliverAt w one p (m ∷ []) c in
-        let j = either Safe (s .delivers .got p m) s after (λ _. i) (λ _. safe-deliverAt one (safe-get (relay w s m p c) k m p h) p (m ∷ []) c) in
-        safe-downIf (takeDeliver w (cond (s .delivers .got p m) s after) m r p) (safe-takeDeliver (cond (s .delivers .got p m) s after) j m r p) c p
+        safe-downIf _ (safe-takeDeliver _ (either Safe (s .delivers .got p m) _ _ (λ _. i) (λ _. safe-arrive s i m p c (i .ending .sent-fast m r p here))) m r p) c p
 
     pub safe-does : (e : Event) → Allowed w s e → Safe (does w s e)
-    safe-does (offer m c) ok = unfold onOffer in safe-downIf (sendFirst w s m c) (safe-sendFirst s i m c (ok .0)) c (w .owner m)
+    safe-does (offer m c) ok = unfold onOffer in safe-downIf _ (safe-sendFirst s i m c (ok .0)) c (w .owner m)
     safe-does (first m r p c) ok = safe-first s i m r p c (ok .0)
     safe-does (second m r p c) ok = safe-second m r p c (ok .0)
     safe-does (third m r c) ok = safe-third m r c (ok .0)
     safe-does (deliver m r p c) ok = safe-deliver m r p c (ok .0)
     safe-does (order m) ok = unfold onOrder in safe-append s i m ok
-    safe-does (read p c) ok = unfold onRead in safe-downIf (deliverAt w (advance w s p) p (entryOf w (s .oracle .entry) (nextAt w s p)) c) (safe-deliverAt (advance w s p) (safe-advance s i p) p (entryOf w (s .oracle .entry) (nextAt w s p)) c) c p
+    safe-does (read p c) ok = unfold onRead in safe-downIf _ (safe-deliverAt _ (safe-advance s i p) p _ c) c p
     safe-does (crash p) ok = safe-down s i p
 
   safe-blank : Safe blank

@@ -1,13 +1,13 @@
 -- The third round is safe (S4 to S6): a set carried is a part of what its sender holds, and has all of that which conflicts.
 -- Assumes nothing.
 use Prim.Native.Nat.{ℕ}
-use mathlib.Core.Path.{_≡_, refl, sym, ap, _∙_}
-use mathlib.Core.Logic.{_⊎_, inl, inr}
-use mathlib.Core.Bool.{Bool, true, false, cond, _&&_, _||_}
+use mathlib.Core.Path.{_≡_, _∙_}
+use mathlib.Core.Logic.{inl, inr}
+use mathlib.Core.Bool.{true, false, cond, _&&_, _||_, and-false, or-false}
 use lib.Dec.{eqb}
 use Rattle.broadcast.specs.Counts.{majority}
-use Rattle.broadcast.specs.Machine.{World, Sets, Thirds, State, Cut, goes, at2, join, clear, joins, step, sendThird, hearThird, takeThird}
-use Rattle.broadcast.proofs.Tests.{test, nope, and-l, and-r, and-i, or-i-l, or-i-r, or-cases, eqb-true, eqb-yes, at2-true, from, stays, drops}
+use Rattle.broadcast.specs.Machine.{World, Sets, Thirds, State, Cut, goes, at2, joins, step, sendThird, hearThird, takeThird}
+use Rattle.broadcast.proofs.Tests.{test, nope, and-l, and-r, and-i, or-i-l, or-i-r, eqb-yes, at2-true, from, stays, drops}
 use Rattle.broadcast.proofs.Voting.{Voting, clear-says, seen-below, step-held}
 
 module _ (w : World) where
@@ -50,7 +50,7 @@ module _ (w : World) where
 
         kept-out : (x r y : ℕ) → s .sets .stepped r x ≡ true → w .conflict x y ≡ true → (p ≡ r) × (m ≡ y) × (joins w s m p ≡ true) → ⊥
         kept-out x r y st c u =
-            let free = and-r (majority (λ q. s .seconds .agreed m q p) (w .n)) (clear w (s .sets .seen p) m) (u .2) in
+            let free = and-r (majority (λ q. s .seconds .agreed m q p) (w .n)) _ (u .2) in
             let sees : s .sets .seen p x ≡ true = rw (u .0) (v .stepped-seen r x st) in
             nope c (w .symmetric x y ∙ rw (← u .1) (clear-says w (s .sets .seen p) m x free (seen-below w v p x sees) sees))
 
@@ -96,16 +96,15 @@ module _ (w : World) where
         | inl u ↦ rw (u .0)
         | inr o ↦ stays (at2 m p x r) _ (i .has-heard x r o)
       ];
-      union-held = λ x y h. elim (or-cases (s .thirds .union x y) (eqb m x && s .thirds .carried m p y) h) [
-        | inl o ↦ i .union-held x y o
-        | inr u ↦ (p, i .carried-held m p y here (and-r (eqb m x) (s .thirds .carried m p y) u))
+      union-held = λ x y h. elim (test (s .thirds .carried m p y)) [
+        | inl t ↦ (p, i .carried-held m p y here t)
+        | inr f ↦ i .union-held x y (simp (f, and-false, or-false) at h)
       ];
       carried-all = i .carried-all;
       union-all = λ x r y h d c. elim (from (at2 m p x r) _ _ h) [
         | inl u ↦ let e = at2-true m p x r (u .0) in
-            or-i-r (s .thirds .union x y) (eqb m x && s .thirds .carried m p y)
-            (and-i (eqb m x) (s .thirds .carried m p y) (eqb-yes m x (e .0)) (i .carried-all m p y here (rw (e .1) d) (rw (e .0) c)))
-        | inr o ↦ or-i-l (s .thirds .union x y) (eqb m x && s .thirds .carried m p y) (i .union-all x r y o d c)
+            or-i-r (s .thirds .union x y) _ (and-i (eqb m x) _ (eqb-yes m x (e .0)) (i .carried-all m p y here (rw (e .1) d) (rw (e .0) c)))
+        | inr o ↦ or-i-l (s .thirds .union x y) _ (i .union-all x r y o d c)
       ];
     }
 

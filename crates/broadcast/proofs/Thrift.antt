@@ -1,17 +1,19 @@
 -- Where no two offered postings conflict, the atomic broadcast is not used: no entry is ever in the pool or in the log.
 -- Rests on Safety (what is seen was offered) and on Counts (n - f sites are a majority). Assumes nothing.
-use Prim.Native.Nat.{ℕ, _-_, _*_, _≤_}
+use Prim.Native.Nat.{ℕ, _-_, _≤_}
 use mathlib.Core.Path.{_≡_, refl, ap, _∙_}
 use mathlib.Core.Logic.{inl, inr}
-use mathlib.Core.Bool.{Bool, true, false, cond, not, _&&_, _||_}
-use mathlib.Core.List.{List, [], _∷_}
+use mathlib.Core.Bool.{Bool, true, false, cond, _&&_, _||_}
+use mathlib.Core.List.{List, []}
 use native.Mathlib.Omega.{arith}
 use lib.Dec.{eqb, leb}
 use Rattle.broadcast.specs.Counts.{count, majority}
-use Rattle.broadcast.specs.Machine.{World, Seconds, Thirds, Oracle, State, Cut, whole, part, goes, at2, at3, join, clear, joins, toAll, down, downIf, sendFirst, takeFirst, see, sendSecond, hearSecond, takeSecond, step, sendThird, hearThird, takeThird, finish, sendDeliver, enterPool, takeDeliver, get, deliverAt, append, advance, entryOf}
-use Rattle.broadcast.specs.Runs.{heardAt, heardOf, lateSecond, lateThird, onOffer, onFirst, onSecond, onThird, onDeliver, onOrder, onRead, countSecond, countThird, conclude, relay, nextAt, Event, offer, first, second, third, deliver, order, read, crash, Allowed, does, blank, Reached, start, next}
-use Rattle.broadcast.proofs.Tests.{test, nope, either, and-l, and-i, or-i-l, stays, drops, eqb-yes, at2-true, join-new, join-cases, leb-true, ltb-yes}
-use Rattle.broadcast.proofs.Counts.{count-mono, enough, none-nowhere}
+use Rattle.broadcast.specs.Machine.{World, Seconds, Thirds, Oracle, State, Cut, whole, part, goes, at2, at3, join, clear, joins, toAll, down, downIf, sendFirst, takeFirst, see, sendSecond, hearSecond, takeSecond, step, sendThird, hearThird, takeThird, finish, takeDeliver, deliverAt, append, advance, entryOf}
+use Rattle.broadcast.specs.Runs.{heardAt, heardOf, lateSecond, lateThird, onOffer, onFirst, onSecond, onThird, onDeliver, onOrder, onRead, countSecond, countThird, conclude, nextAt, Event, offer, first, second, third, deliver, order, read, crash, Allowed, does, blank, Reached, start, next}
+use Rattle.broadcast.proofs.Steps.{step-new, after-countSecond, after-conclude, after-countThird, after-arrive}
+use Rattle.broadcast.proofs.Tests.{test, nope, not-false, either, and-l, and-i, or-i-l, stays, drops, eqb-yes, at2-true, join-cases, leb-true}
+use Rattle.broadcast.proofs.Counts.{count-mono, more-majority, enough, none-nowhere}
+use Rattle.broadcast.proofs.Ending.{won, concludes}
 use Rattle.broadcast.proofs.Safety.{Safe, safe, seen-named, second-named}
 
 -- the posting that an event offers
@@ -30,52 +32,41 @@ module _ (w : World) where
   abbrev Same : State → State → Type 0
   Same s t = t .offered ≡ s .offered
 
-  same-downIf : (c : Cut) (s : State) (p : ℕ) → Same s (downIf w c s p)
-  same-downIf whole s p = refl
-  same-downIf (part out) s p = unfold down in refl
+  same-downIf : (c : Cut) (s t : State) (p : ℕ) → Same s t → Same s (downIf w c t p)
+  same-downIf whole s t p e = e
+  same-downIf (part out) s t p e = unfold down in e
 
   same-second : (s : State) (m r p : ℕ) (c : Cut) → Same s (onSecond w s m r p c)
-  unfolding onSecond
-  same-second s m r p c =
-      let one = hearSecond w s m r p in
-      let after = countSecond w one m p c in
-      same-downIf c (takeSecond w (cond (lateSecond w s m r p) s after) m r p) p
-      ∙ either (λ t. Same s (takeSecond w t m r p)) (lateSecond w s m r p) s after (λ _. unfold takeSecond in refl)
-      (λ _. either (λ t. Same s (takeSecond w t m r p)) (leb (w .n - w .f) (heardAt w one m p)) (sendThird w (step w (see w one m p) m p) m p c) one
-      (λ _. unfold takeSecond sendThird step see hearSecond in refl) (λ _. unfold takeSecond hearSecond in refl))
+  unfolding onSecond takeSecond hearSecond
+  same-second s m r p c = same-downIf c s _ p (either (Same s) (lateSecond w s m r p) _ _ (λ _. refl) (λ _.
+      after-countSecond w (hearSecond w s m r p) (Same s) m p c (λ _ _ _. refl)))
 
   same-third : (s : State) (m r : ℕ) (c : Cut) → Same s (onThird w s m r c)
-  unfolding onThird
-  same-third s m r c =
-      let one = hearThird w s m r in
-      let done = finish w one m in
-      let after = countThird w one m c in
-      same-downIf c (takeThird w (cond (lateThird w s m r) s after) m r) (w .owner m)
-      ∙ either (λ t. Same s (takeThird w t m r)) (lateThird w s m r) s after (λ _. unfold takeThird in refl)
-      (λ _. either (λ t. Same s (takeThird w t m r)) (leb (w .n - w .f) (heardOf w one m)) (conclude w done m c) one
-      (λ _. either (λ t. Same s (takeThird w t m r)) (majority (λ q. done .thirds .has m q) (w .n)) (sendDeliver w done m (w .owner m) (toAll w c)) (enterPool w done m c)
-      (λ _. unfold takeThird sendDeliver finish hearThird in refl) (λ _. unfold takeThird enterPool finish hearThird in refl))
-      (λ _. unfold takeThird hearThird in refl))
+  unfolding onThird takeThird hearThird
+  same-third s m r c = same-downIf c s _ (w .owner m) (either (Same s) (lateThird w s m r) _ _ (λ _. refl) (λ _.
+      after-countThird w (hearThird w s m r) (Same s) m c (λ _ _ _ _. refl)))
 
   same-deliver : (s : State) (m r p : ℕ) (c : Cut) → Same s (onDeliver w s m r p c)
-  unfolding onDeliver
-  same-deliver s m r p c =
-      let after = deliverAt w (get w (relay w s m p c) m p) p (m ∷ []) c in
-      same-downIf c (takeDeliver w (cond (s .delivers .got p m) s after) m r p) p
-      ∙ either (λ t. Same s (takeDeliver w t m r p)) (s .delivers .got p m) s after (λ _. unfold takeDeliver in refl)
-      (λ _. either (λ t. Same s (takeDeliver w (deliverAt w (get w t m p) p (m ∷ []) c) m r p)) (eqb p (w .owner m)) s (sendDeliver w s m p (λ t. not (eqb p t) && toAll w c t))
-      (λ _. unfold takeDeliver deliverAt get in refl) (λ _. unfold takeDeliver deliverAt get sendDeliver in refl))
+  unfolding onDeliver takeDeliver
+  same-deliver s m r p c = same-downIf c s _ p (either (Same s) (s .delivers .got p m) _ _ (λ _. refl) (λ _. after-arrive w s (Same s) m p c (λ _ _ _. refl)))
+
+  same-first : (s : State) (m r p : ℕ) (c : Cut) → Same s (onFirst w s m r p c)
+  unfolding onFirst sendSecond see takeFirst
+  same-first s m r p c = same-downIf c s _ p refl
+
+  same-read : (s : State) (p : ℕ) (c : Cut) → Same s (onRead w s p c)
+  unfolding onRead deliverAt advance
+  same-read s p c = same-downIf c s _ p refl
 
   pub offered-does : (s : State) (e : Event) (x : ℕ) → (does w s e) .offered x ≡ cond (offers e x) true (s .offered x)
-  offered-does s (offer m c) x = unfold onOffer in ap (λ (q : ℕ → Bool). q x) (same-downIf c (sendFirst w s m c) (w .owner m)) ∙ (unfold sendFirst in refl)
-  offered-does s (first m r p c) x =
-      unfold onFirst in ap (λ (q : ℕ → Bool). q x) (same-downIf c (sendSecond w (see w (takeFirst w s m r p) m p) m p c) p) ∙ (unfold sendSecond see takeFirst in refl)
+  offered-does s (offer m c) x =
+      unfold onOffer in ap (λ (q : ℕ → Bool). q x) (same-downIf c (sendFirst w s m c) (sendFirst w s m c) (w .owner m) refl) ∙ (unfold sendFirst in refl)
+  offered-does s (first m r p c) x = ap (λ (q : ℕ → Bool). q x) (same-first s m r p c)
   offered-does s (second m r p c) x = ap (λ (q : ℕ → Bool). q x) (same-second s m r p c)
   offered-does s (third m r c) x = ap (λ (q : ℕ → Bool). q x) (same-third s m r c)
   offered-does s (deliver m r p c) x = ap (λ (q : ℕ → Bool). q x) (same-deliver s m r p c)
   offered-does s (order m) x = unfold onOrder append in refl
-  offered-does s (read p c) x =
-      unfold onRead in ap (λ (q : ℕ → Bool). q x) (same-downIf c (deliverAt w (advance w s p) p (entryOf w (s .oracle .entry) (nextAt w s p)) c) p) ∙ (unfold deliverAt advance in refl)
+  offered-does s (read p c) x = ap (λ (q : ℕ → Bool). q x) (same-read s p c)
   offered-does s (crash p) x = unfold down in refl
 
   pub offered-grows : (s : State) (e : Event) (x : ℕ) → s .offered x ≡ true → (does w s e) .offered x ≡ true
@@ -106,7 +97,7 @@ module _ (w : World) where
   most p q many h =
       let more = count-mono p q (w .n) (λ r _. h r) in
       let k : w .n - w .f ≤ count q (w .n) = omega arith in
-      ltb-yes (w .n) (2 * count q (w .n)) (enough (w .n) (w .f) (count q (w .n)) (w .few) k)
+      more-majority q (w .n) (enough (w .n) (w .f) (count q (w .n)) (w .few) k)
 
   -- the small steps
   module _ (s : State) (i : CalmIn s) where
@@ -202,11 +193,28 @@ module _ (w : World) where
     calm-downIf whole p = i
     calm-downIf (part out) p = unfold down in i
 
+    -- where the THIRDs of more than half carried m, no entry of m is made
+    calm-conclude : (m : ℕ) (c : Cut) → won w (s .thirds) m ≡ true → CalmIn (conclude w s m c)
+    calm-conclude m c t =
+        after-conclude w s (λ u. ((x : ℕ) → u .oracle .pool x ≡ false) → CalmIn u) m c
+        (λ sent pool entry none. record { good = i .good; agreed = i .agreed; holds = i .holds; carries = i .carries; has = i .has; no-pool = none; no-log = i .no-log })
+        (λ x. not-false ((conclude w s m c) .oracle .pool x) (λ h. elim (concludes w s m c (i .no-pool m) .pool-lost x h) [ inl u ↦ nope t (u .1) | inr o ↦ nope o (i .no-pool x) ]))
+
+  -- m is seen, at whichever site, and n - f sites said GOOD: the step joins held
+  calm-stepping : (s : State) → CalmIn s → (m q p : ℕ) (c : Cut) → w .n - w .f ≤ heardAt w s m p → clear w ((see w s m q) .sets .seen p) m ≡ true
+      → CalmIn (sendThird w (step w (see w s m q) m p) m p c)
+  calm-stepping s i m q p c many free =
+      let one = see w s m q in
+      let k : CalmIn one = unfold see in i in
+      let vote : majority (λ a. one .seconds .agreed m a p) (w .n) ≡ true =
+      unfold see in most (λ a. s .seconds .heard m a p) (λ a. s .seconds .agreed m a p) many (λ a. i .agreed m a p) in
+      calm-sendThird (step w one m p) (calm-step one k m p (and-i (majority (λ a. one .seconds .agreed m a p) (w .n)) _ vote free)) m p c (step-new w one m p)
+
   -- the events
   module _ (s : State) (j : Safe w s) (apart : Apart s) (i : CalmIn s) where
     -- what p has seen, m with it, has nothing that conflicts with m
-    sees-clear : (m p : ℕ) → s .offered m ≡ true → clear w (join (s .sets .seen) p m p) m ≡ true
-    sees-clear m p known = all-clear (join (s .sets .seen) p m p) m (λ x h. elim (join-cases (s .sets .seen) p m p x h) [
+    sees-clear : (m q p : ℕ) → s .offered m ≡ true → clear w (join (s .sets .seen) q m p) m ≡ true
+    sees-clear m q p known = all-clear (join (s .sets .seen) q m p) m (λ x h. elim (join-cases (s .sets .seen) q m p x h) [
       | inl e ↦ rw (← e .1) (w .irreflexive m)
       | inr o ↦ apart m x known (seen-named w s j p x o)
     ])
@@ -215,65 +223,37 @@ module _ (w : World) where
     unfolding onFirst
     calm-first m r p c here =
         let one = see w (takeFirst w s m r p) m p in
-        let free : clear w (one .sets .seen p) m ≡ true = unfold see takeFirst in sees-clear m p (j .first-named m r p here) in
+        let free : clear w (one .sets .seen p) m ≡ true = unfold see takeFirst in sees-clear m p p (j .first-named m r p here) in
         let k : CalmIn one = unfold see takeFirst in i in
         calm-downIf (sendSecond w one m p c) (calm-sendSecond one k m p c free) c p
 
-    calm-countSecond : (m r p : ℕ) (c : Cut) → s .seconds .sent m r p ≡ true → CalmIn (countSecond w (hearSecond w s m r p) m p c)
-    calm-countSecond m r p c here =
-        let one = hearSecond w s m r p in
-        let two = see w one m p in
-        let k = calm-hearSecond s i m r p here in
-        let k2 : CalmIn two = unfold see in k in
-        let free : clear w (two .sets .seen p) m ≡ true = unfold see hearSecond in sees-clear m p (second-named w s j m r p here) in
-        let stepped : (step w two m p) .sets .stepped p m ≡ true = unfold step in join-new (two .sets .stepped) p m in
-        either CalmIn (leb (w .n - w .f) (heardAt w one m p)) (sendThird w (step w two m p) m p c) one
-        (λ t.
-        let vote : majority (λ a. two .seconds .agreed m a p) (w .n) ≡ true = unfold see in
-        most (λ a. one .seconds .heard m a p) (λ a. one .seconds .agreed m a p) (leb-true (w .n - w .f) (heardAt w one m p) t) (λ a. k .agreed m a p) in
-        calm-sendThird (step w two m p) (calm-step two k2 m p (and-i (majority (λ a. two .seconds .agreed m a p) (w .n)) (clear w (two .sets .seen p) m) vote free)) m p c stepped)
-        (λ _. k)
-
     calm-second : (m r p : ℕ) (c : Cut) → s .seconds .sent m r p ≡ true → CalmIn (onSecond w s m r p c)
-    unfolding onSecond
+    unfolding onSecond countSecond
     calm-second m r p c here =
-        let after = countSecond w (hearSecond w s m r p) m p c in
-        let late = lateSecond w s m r p in
-        let k = either CalmIn late s after (λ _. i) (λ _. calm-countSecond m r p c here) in
-        calm-downIf (takeSecond w (cond late s after) m r p) (calm-takeSecond (cond late s after) k m r p) c p
+        let one = hearSecond w s m r p in
+        let k = calm-hearSecond s i m r p here in
+        let free : (q : ℕ) → clear w ((see w one m q) .sets .seen p) m ≡ true = unfold see hearSecond in λ q. sees-clear m q p (second-named w s j m r p here) in
+        calm-downIf _ (calm-takeSecond _ (either CalmIn (lateSecond w s m r p) _ _ (λ _. i) (λ _.
+        either CalmIn (leb (w .n - w .f) (heardAt w one m p)) _ _
+        (λ t. calm-stepping one k m _ p c (leb-true (w .n - w .f) (heardAt w one m p) t) (free _)) (λ _. k))) m r p) c p
 
     -- the n - f THIRDs heard all carried m: m goes by DELIVER
-    calm-countThird : (m r : ℕ) (c : Cut) → s .thirds .sent m r ≡ true → CalmIn (countThird w (hearThird w s m r) m c)
-    calm-countThird m r c here =
+    calm-third : (m r : ℕ) (c : Cut) → s .thirds .sent m r ≡ true → CalmIn (onThird w s m r c)
+    unfolding onThird countThird
+    calm-third m r c here =
         let one = hearThird w s m r in
         let done = finish w one m in
         let k = calm-hearThird s i m r here in
-        either CalmIn (leb (w .n - w .f) (heardOf w one m)) (conclude w done m c) one
-        (λ t. either CalmIn (majority (λ a. done .thirds .has m a) (w .n)) (sendDeliver w done m (w .owner m) (toAll w c)) (enterPool w done m c)
-        (λ _. unfold sendDeliver finish in k)
-        (λ lost.
-        let won : majority (λ a. done .thirds .has m a) (w .n) ≡ true = unfold finish in
-        most (λ a. one .thirds .heard m a) (λ a. one .thirds .has m a) (leb-true (w .n - w .f) (heardOf w one m) t) (λ a. k .has m a) in
-        absurd (nope won lost)))
-        (λ _. k)
-
-    calm-third : (m r : ℕ) (c : Cut) → s .thirds .sent m r ≡ true → CalmIn (onThird w s m r c)
-    unfolding onThird
-    calm-third m r c here =
-        let after = countThird w (hearThird w s m r) m c in
-        let late = lateThird w s m r in
-        let k = either CalmIn late s after (λ _. i) (λ _. calm-countThird m r c here) in
-        calm-downIf (takeThird w (cond late s after) m r) (calm-takeThird (cond late s after) k m r) c (w .owner m)
+        let ended : CalmIn done = unfold finish in k in
+        let wins : w .n - w .f ≤ heardOf w one m → won w (done .thirds) m ≡ true = unfold finish in λ many.
+        most (λ a. one .thirds .heard m a) (λ a. one .thirds .has m a) many (λ a. k .has m a) in
+        calm-downIf _ (calm-takeThird _ (either CalmIn (lateThird w s m r) _ _ (λ _. i) (λ _.
+        either CalmIn (leb (w .n - w .f) (heardOf w one m)) _ _
+        (λ t. calm-conclude done ended m c (wins (leb-true (w .n - w .f) (heardOf w one m) t))) (λ _. k))) m r) c (w .owner m)
 
     calm-deliver : (m r p : ℕ) (c : Cut) → CalmIn (onDeliver w s m r p c)
-    unfolding onDeliver
-    calm-deliver m r p c =
-        let got = s .delivers .got p m in
-        let to : ℕ → Bool = λ t. not (eqb p t) && toAll w c t in
-        let after = deliverAt w (get w (relay w s m p c) m p) p (m ∷ []) c in
-        let k = either CalmIn got s after (λ _. i) (λ _. unfold deliverAt get in either CalmIn (eqb p (w .owner m)) s (sendDeliver w s m p to) (λ _. i) (λ _. unfold sendDeliver in i)) in
-        let one : CalmIn (takeDeliver w (cond got s after) m r p) = unfold takeDeliver in k in
-        calm-downIf (takeDeliver w (cond got s after) m r p) one c p
+    unfolding onDeliver takeDeliver
+    calm-deliver m r p c = calm-downIf _ (either CalmIn (s .delivers .got p m) _ _ (λ _. i) (λ _. after-arrive w s CalmIn m p c (λ _ _ _. i))) c p
 
     calm-does : (e : Event) → Allowed w s e → CalmIn (does w s e)
     calm-does (offer m c) ok = unfold onOffer in calm-downIf (sendFirst w s m c) (unfold sendFirst in i) c (w .owner m)

@@ -1,15 +1,17 @@
 -- The first two rounds are safe (N0, S0 to S3, S5): what is seen was offered, a GOOD excludes a GOOD for a conflicting posting
 -- from the same site, and no two conflicting postings are held anywhere. Assumes nothing.
-use Prim.Native.Nat.{ℕ, _*_, _<_, _≤_}
-use mathlib.Core.Path.{_≡_, refl, sym, ap, _∙_}
+use Prim.Native.Nat.{ℕ, _*_, _-_, _<_}
+use mathlib.Core.Path.{_≡_, _∙_}
 use mathlib.Core.Logic.{_⊎_, inl, inr}
-use mathlib.Core.Bool.{Bool, true, false, cond, _&&_}
+use mathlib.Core.Bool.{Bool, true, false, _&&_}
 use native.Mathlib.Omega.{arith}
-use lib.Dec.{eqb}
+use lib.Dec.{eqb, leb}
 use Rattle.broadcast.specs.Counts.{count, majority}
-use Rattle.broadcast.specs.Machine.{World, Sets, Seconds, State, at2, at3, with, join, clear, toAll, joins, sendFirst, see, sendSecond, hearSecond, takeSecond, step}
-use Rattle.broadcast.proofs.Tests.{test, nope, and-l, and-r, and-i, ltb-true, eqb-true, at2-true, at3-true, from, stays, drops, join-at, join-cases}
-use Rattle.broadcast.proofs.Counts.{count-mono, majorities-meet, nowhere-none}
+use Rattle.broadcast.specs.Machine.{World, Sets, Seconds, State, Cut, at2, at3, with, clear, toAll, joins, see, sendSecond, hearSecond, takeSecond, step, sendThird}
+use Rattle.broadcast.specs.Runs.{heardAt, countSecond}
+use Rattle.broadcast.proofs.Steps.{see-new}
+use Rattle.broadcast.proofs.Tests.{test, nope, and-l, and-r, and-i, eqb-true, at2-true, at3-true, from, stays, drops, join-at, join-cases}
+use Rattle.broadcast.proofs.Counts.{count-mono, majority-more, majorities-meet, nowhere-none}
 
 module _ (w : World) where
   -- a set without conflicts: no member of it conflicts
@@ -88,7 +90,7 @@ module _ (w : World) where
     }
 
     -- where a GOOD comes from after SECONDs of m were sent by p
-    sent-good : (m p : ℕ) (c : _) (x a b : ℕ) → Good ((sendSecond w s m p c) .seconds) x a b
+    sent-good : (m p : ℕ) (c : Cut) (x a b : ℕ) → Good ((sendSecond w s m p c) .seconds) x a b
         → ((m ≡ x) × (p ≡ a) × (clear w (s .sets .seen p) m ≡ true)) ⊎ Good (s .seconds) x a b
     unfolding sendSecond
     sent-good m p c x a b (inl g) = elim (from (at2 m p x a && toAll w c b) _ _ g) [
@@ -101,7 +103,7 @@ module _ (w : World) where
     no-clash : (m p x b : ℕ) → clear w (s .sets .seen p) m ≡ true → Good (s .seconds) x p b → w .conflict m x ≡ false
     no-clash m p x b c g = let h = good-seen i x p b g in clear-says (s .sets .seen p) m x c (seen-below i p x h) h
 
-    pub sendSecond-voting : (m p : ℕ) (c : _) → s .sets .seen p m ≡ true → Voting (s .offered) (s .sets) ((sendSecond w s m p c) .seconds)
+    pub sendSecond-voting : (m p : ℕ) (c : Cut) → s .sets .seen p m ≡ true → Voting (s .offered) (s .sets) ((sendSecond w s m p c) .seconds)
     sendSecond-voting m p c here = record {
       below = i .below;
       named = i .named;
@@ -205,7 +207,7 @@ module _ (w : World) where
       heard-seen = unfold step in i .heard-seen;
       apart = i .apart;
       major = λ q x h. elim (step-held m p q x h) [
-        | inl u ↦ rw (← u .0, ← u .1) (ltb-true (w .n) _ (and-l (majority (λ r. s .seconds .agreed m r p) (w .n)) (clear w (s .sets .seen p) m) (u .2)))
+        | inl u ↦ rw (← u .0, ← u .1) (majority-more (λ r. s .seconds .agreed m r p) (w .n) (and-l (majority (λ r. s .seconds .agreed m r p) (w .n)) _ (u .2)))
         | inr o ↦ i .major q x o
       ];
       held-stepped = λ q x h. elim (step-held m p q x h) [
@@ -217,3 +219,8 @@ module _ (w : World) where
         | inr o ↦ i .stepped-seen q x o
       ];
     }
+
+  -- S5: p has seen what it steps
+  pub countSecond-seen : (s : State) (m p : ℕ) (c : Cut) → leb (w .n - w .f) (heardAt w s m p) ≡ true → (countSecond w s m p c) .sets .seen p m ≡ true
+  unfolding countSecond sendThird step
+  countSecond-seen s m p c last = rw (last, countSecond) (see-new w s m p)

@@ -2,7 +2,7 @@
 -- Rests on Lists and Counts. A set is a Boolean function; sites, postings and senders are numbers.
 use Prim.Native.Nat.{ℕ, suc, _*_, _<_}
 use mathlib.Core.Path.{_≡_}
-use mathlib.Core.Bool.{Bool, true, false, cond, _&&_, _||_}
+use mathlib.Core.Bool.{Bool, true, false, cond, not, _&&_, _||_}
 use mathlib.Core.List.{List, [], _∷_, _++_}
 use lib.Dec.{eqb, ltb}
 use Rattle.broadcast.specs.Lists.{members, deliverAll}
@@ -144,6 +144,10 @@ module _ (w : World) where
   -- all sites, as far as the cut lets a send to them go out
   abbrev pub toAll : Cut → ℕ → Bool
   toAll c t = ltb t (w .n) && goes c t
+
+  -- all sites but p, likewise
+  abbrev pub toOthers : ℕ → Cut → ℕ → Bool
+  toOthers p c t = not (eqb p t) && toAll c t
 
   -- Line 4. To gbroadcast m: its owner sends FIRST to all.
   unfoldable pub sendFirst : State → ℕ → Cut → State

@@ -7,7 +7,7 @@ use mathlib.Core.List.{List, [], _∷_}
 use lib.Dec.{eqb, ltb, leb}
 use lib.ListN.{getD, length}
 use Rattle.broadcast.specs.Counts.{bit, count, majority}
-use Rattle.broadcast.specs.Machine.{World, State, Cut, whole, part, toAll, downIf, down, sendFirst, takeFirst, see, sendSecond, hearSecond, takeSecond, step, sendThird, hearThird, takeThird, finish, sendDeliver, enterPool, takeDeliver, get, deliverAt, append, advance, entryOf}
+use Rattle.broadcast.specs.Machine.{World, State, Cut, whole, part, toAll, toOthers, downIf, down, sendFirst, takeFirst, see, sendSecond, hearSecond, takeSecond, step, sendThird, hearThird, takeThird, finish, sendDeliver, enterPool, takeDeliver, get, deliverAt, append, advance, entryOf}
 
 module _ (w : World) where
   -- how many sites p has heard for m in the second round, and m's owner in the third
@@ -33,7 +33,7 @@ module _ (w : World) where
   onFirst s m r p c = downIf w c (sendSecond w (see w (takeFirst w s m r p) m p) m p c) p
 
   -- SECOND m has been heard at p: where this is the (n - f)th, p steps m and sends THIRD.
-  abbrev pub countSecond : State → ℕ → ℕ → Cut → State
+  unfoldable pub countSecond : State → ℕ → ℕ → Cut → State
   countSecond s m p c = cond (leb (w .n - w .f) (heardAt s m p)) (sendThird w (step w (see w s m p) m p) m p c) s
 
   -- SECOND m from r at p.
@@ -42,12 +42,12 @@ module _ (w : World) where
       downIf w c (takeSecond w (cond (lateSecond s m r p) s (countSecond (hearSecond w s m r p) m p c)) m r p) p
 
   -- m is finished: DELIVER goes to all if the sets of more than half of the sites had m, else the entry goes into the pool.
-  abbrev pub conclude : State → ℕ → Cut → State
+  unfoldable pub conclude : State → ℕ → Cut → State
   conclude s m c =
       cond (majority (λ r. s .thirds .has m r) (w .n)) (sendDeliver w s m (w .owner m) (toAll w c)) (enterPool w s m c)
 
   -- THIRD m has been heard by its owner: where this is the (n - f)th, m is finished.
-  abbrev pub countThird : State → ℕ → Cut → State
+  unfoldable pub countThird : State → ℕ → Cut → State
   countThird s m c = cond (leb (w .n - w .f) (heardOf s m)) (conclude (finish w s m) m c) s
 
   -- THIRD m from r at m's owner.
@@ -55,16 +55,17 @@ module _ (w : World) where
   onThird s m r c =
       downIf w c (takeThird w (cond (lateThird s m r) s (countThird (hearThird w s m r) m c)) m r) (w .owner m)
 
-  -- The reliable broadcast: a site other than the owner sends DELIVER m to all but itself, before it delivers.
-  abbrev pub relay : State → ℕ → ℕ → Cut → State
-  relay s m p c = cond (eqb p (w .owner m)) s (sendDeliver w s m p (λ t. not (eqb p t) && toAll w c t))
+  -- The reliable broadcast: a site other than the owner sends DELIVER m to all but itself.
+  unfoldable pub relay : State → ℕ → ℕ → Cut → State
+  relay s m p c = cond (eqb p (w .owner m)) s (sendDeliver w s m p (toOthers w p c))
+
+  -- DELIVER m is at p for the first time: p relays it, then delivers.
+  unfoldable pub arrive : State → ℕ → ℕ → Cut → State
+  arrive s m p c = deliverAt w (get w (relay s m p c) m p) p (m ∷ []) c
 
   -- DELIVER m from r at p: the first receipt counts, a later one has no effect.
   unfoldable pub onDeliver : State → ℕ → ℕ → ℕ → Cut → State
-  onDeliver s m r p c =
-      downIf w c
-      (takeDeliver w (cond (s .delivers .got p m) s (deliverAt w (get w (relay s m p c) m p) p (m ∷ []) c)) m r p)
-      p
+  onDeliver s m r p c = downIf w c (takeDeliver w (cond (s .delivers .got p m) s (arrive s m p c)) m r p) p
 
   -- Order m.
   unfoldable pub onOrder : State → ℕ → State

@@ -32,7 +32,7 @@ use Rattle.flight.specs.Flights.{Shape, receiversIn, messageIn, isCell, inFligh
 use Rattle.flight.specs.CellLaws.{cell-range, range-cell, sameCell}
 use Rattle.flight.specs.FlightLaws.{Fits, sends, isThird, loadOf, isMessage, sending-shape, sending-in-flight, sending-carried, taking-shape, taking-in-flight, taking-carried}
 use Rattle.machine.specs.declared.Board.{Board}
-use Rattle.invariants.proofs.Sound.{Offers, CellSound}
+use Rattle.machine.proofs.SoundFacts.{Offers, CellSound}
 use Rattle.invariants.proofs.StepSound.{SendSound, AllSends}
 
 -- a message in flight

@@ -17,7 +17,7 @@ use Rattle.posting.specs.ConflictLaws.{offered-below, below-offered}
 use Rattle.site.specs.declared.Site.{Site}
 use Rattle.site.specs.declared.Tally.{Tally}
 use Rattle.machine.specs.Boards.{tableWith}
-use Rattle.invariants.proofs.Sound.{Offers, MaskSound, RecordSound, SiteSound, TallySound}
+use Rattle.machine.proofs.SoundFacts.{Offers, MaskSound, RecordSound, SiteSound, TallySound}
 
 -- every posting of t is in u, in the same row
 pub record Grows (t u : Table) : Type 0 where

@@ -43,9 +43,9 @@ use Rattle.machine.specs.Boards.{siteAt, tallyAt, isDown, tableWith, boardTable
 use Rattle.machine.specs.Calls.{isCut, carriedOut, receiptOf}
 use Rattle.machine.specs.Runs.{taking, accepted, running}
 use Rattle.machine.specs.History.{acceptedCalls, offers, orders, reads, bringsDown, broughtDown}
-use Rattle.invariants.proofs.Shapes.{BoardShape}
-use Rattle.invariants.proofs.Sound.{Sound}
-use Rattle.invariants.proofs.SoundTest.{sound-facts}
+use Rattle.machine.proofs.Shapes.{BoardShape}
+use Rattle.machine.proofs.SoundFacts.{Sound}
+use Rattle.machine.proofs.SoundTest.{sound-facts}
 use Rattle.invariants.proofs.Judged.{Acts, OfferTaken, ReceiptTaken, OrderTaken, ReadTaken, CrashTaken, offer-taken, receipt-taken, order-taken, read-taken, crash-taken, refused-same, readStep, offerStep}
 use Rattle.invariants.proofs.CarriedOut.{siteAfter, out-setup, out-table, out-log, out-down, out-site, out-site-other}
 use Rattle.invariants.proofs.Grow.{table-grows, new-row}
@@ -280,7 +280,7 @@ module _ (b : Board) (shape : BoardShape b) (few : b .setup .n ≤ sites) (done 
   unfolding taking
   order-done m k =
       let c = Order m in
-      let facts = sound-facts b shape (k .sound) in
+      let facts = sound-facts b (shape .flight .masks .long) (k .sound) in
       let o = facts .pool m (k .pooled) in
       let lt = (offered-below (b .table) m o) .1 in
       let lacks : contains (b .log) m ≡ false = not-so (contains (b .log) m) (λ h. facts .each-entry m lt .apart (k .pooled) (unfold contains in h)) in

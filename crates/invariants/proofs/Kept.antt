@@ -44,9 +44,10 @@ use Rattle.machine.specs.declared.Call.the-variants.{Offer, Receive, Order, Rea
 use Rattle.machine.specs.Boards.{siteAt, tallyAt, entryAt, tableWith, boardTable, boardFlight}
 use Rattle.machine.specs.Soundness.{isSound, setupOk, sitesOk, crashesOk}
 use Rattle.machine.specs.Calls.{carriedOut, isCut, pooling, entering}
-use Rattle.invariants.proofs.Shapes.{SiteShape, BoardShape}
-use Rattle.invariants.proofs.Sound.{AllTrue, of-all, Offers, MaskSound, RecordSound, SiteSound, TallySound, CellSound, EntrySound, Sound}
-use Rattle.invariants.proofs.SoundTest.{sound-facts, facts-sound}
+use Rattle.machine.proofs.Shapes.{SiteShape, BoardShape}
+use Rattle.machine.proofs.SoundFacts.{AllTrue, of-all, Offers, MaskSound, RecordSound, SiteSound, TallySound, CellSound, EntrySound, Sound}
+use Rattle.machine.proofs.Facts.{setup-sites}
+use Rattle.machine.proofs.SoundTest.{sound-facts, facts-sound}
 use Rattle.invariants.proofs.StepSound.{SendSound, AllSends, all-take, StepSound, delivered-ok, delivered-shape}
 use Rattle.invariants.proofs.Grow.{Grows, offers-grow, record-grow, site-grow, tally-grow}
 use Rattle.invariants.proofs.Room.{listed-offered, record-room}
@@ -54,15 +55,6 @@ use Rattle.invariants.proofs.PoolSound.{PoolSound, pool-sound}
 use Rattle.invariants.proofs.FlightSound.{FlightSound, fits, flight-facts, facts-flight, sends-shape, sends-sound}
 use Rattle.invariants.proofs.Blank.{Past, Unloaded, Blank, deliveringAll-past, sending-unloaded}
 use Rattle.invariants.proofs.CarriedOut.{sendsOut, siteAfter, out-setup, out-table, out-log, out-down, out-sites, out-tallies, out-flight, out-pool, out-entries, out-site, out-site-other, out-tally, out-tally-other}
-
--- ---- n, f
-
-pub setup-sites : (setup : Setup) → setupOk setup ≡ true → (3 ≤ setup .n) × (setup .n ≤ sites) × (2 * setup .f < setup .n)
-unfolding setupOk
-setup-sites setup h =
-    let all = of-all _ h in
-    let n = setup .n in
-    (leb-true 3 n (and-left (leb 3 n) (leb n 7) (all .0)), leb-true n 7 (and-right (leb 3 n) (leb n 7) (all .0)), ltb-true (2 * setup .f) n (all .1 .0))
 
 -- ---- all cells of a sound board
 

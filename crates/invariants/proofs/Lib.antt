@@ -1,6 +1,3 @@
-pub mod Shapes
-pub mod Sound
-pub mod SoundTest
 pub mod SiteSound
 pub mod StepSound
 pub mod Judged

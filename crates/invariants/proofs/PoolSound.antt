@@ -24,7 +24,7 @@ use Rattle.site.specs.Sites.{noSet}
 use Rattle.site.specs.Sends.{Send, first, second, third, deliver, entry}
 use Rattle.site.specs.Steps.{ownerOf}
 use Rattle.machine.specs.Calls.{pooling, entering}
-use Rattle.invariants.proofs.Sound.{Offers}
+use Rattle.machine.proofs.SoundFacts.{Offers}
 use Rattle.invariants.proofs.SiteSound.{offers-with}
 use Rattle.invariants.proofs.StepSound.{SendSound, AllSends}
 

@@ -33,12 +33,12 @@ use Rattle.machine.specs.Boards.{siteAt, isDown}
 use Rattle.machine.specs.Soundness.{isSound}
 use Rattle.machine.specs.Calls.{Cause, judged, noSuchSite, receiptOf, receiving, ordering, reading}
 use Rattle.machine.specs.Runs.{taking, accepted, upMask, isQuiet, isAction, NothingLeft}
-use Rattle.invariants.proofs.Sound.{Sound, no-bits}
-use Rattle.invariants.proofs.SoundTest.{facts-sound}
+use Rattle.machine.proofs.SoundFacts.{Sound, no-bits}
+use Rattle.machine.proofs.SoundTest.{facts-sound}
 use Rattle.invariants.proofs.Judged.{NoneApply, Acts, readStep, receipt-taken, order-taken, read-taken}
 use Rattle.invariants.proofs.FlightSound.{in-cell, cell-in-flight, bit-below}
 use Rattle.invariants.proofs.Kept.{cells-below}
-use Rattle.invariants.proofs.Reached.{Good, good-sites}
+use Rattle.invariants.proofs.Reached.{GoodIf, good-sites}
 
 -- ---- nothing comes
 
@@ -76,7 +76,7 @@ unfolding judged
 none-judged [] back taken h = refl
 none-judged (c ∷ l) back taken h = rw (h .0) (none-judged l back taken (h .1))
 
-module _ (b : Board) (g : Good b) where
+module _ {clean : Bool} (b : Board) (g : GoodIf clean b) where
   sound : isSound b ≡ true
   sound = facts-sound b (g .shape) (good-sites b g) (g .sound)
 

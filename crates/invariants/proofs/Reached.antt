@@ -44,9 +44,9 @@ use Rattle.machine.specs.declared.Call.the-variants.{Offer, Receive, Order, Rea
 use Rattle.machine.specs.Boards.{siteAt, tallyAt, entryAt, loggedAt, tableWith, boardTable, boardFlight}
 use Rattle.machine.specs.Calls.{carriedOut, receiptOf}
 use Rattle.machine.specs.Runs.{taking, accepted, running}
-use Rattle.invariants.proofs.Shapes.{SiteShape, BoardShape}
-use Rattle.invariants.proofs.Sound.{Offers, MaskSound, RecordSound, SiteSound, TallySound, CellSound, EntrySound, Sound}
-use Rattle.invariants.proofs.SoundTest.{sound-facts, facts-sound}
+use Rattle.machine.proofs.Shapes.{SiteShape, BoardShape}
+use Rattle.machine.proofs.SoundFacts.{Offers, MaskSound, RecordSound, SiteSound, TallySound, CellSound, EntrySound, Sound}
+use Rattle.machine.proofs.SoundTest.{sound-facts, facts-sound}
 use Rattle.invariants.proofs.SiteSound.{append-sound}
 use Rattle.invariants.proofs.StepSound.{StepSound, offer-step, first-step, second-step, third-step, deliver-step, entry-step}
 use Rattle.invariants.proofs.Grow.{Grows, table-grows, new-row, offered-old, offers-grow, record-grow, site-grow, tally-grow, site-longer}
@@ -54,18 +54,22 @@ use Rattle.invariants.proofs.Room.{listed-offered, record-room, listed-
 use Rattle.invariants.proofs.FlightSound.{FlightSound, MessageSound, flight-facts, facts-flight, taken-sound}
 use Rattle.invariants.proofs.Judged.{Acts, OfferTaken, ReceiptTaken, OrderTaken, ReadTaken, CrashTaken, offer-taken, receipt-taken, order-taken, read-taken, crash-taken, refused-same, readStep, offerStep, nextLogged}
 use Rattle.invariants.proofs.Blank.{Blank, append-past, taking-unloaded, receipt-record}
-use Rattle.invariants.proofs.Kept.{Ready, setup-sites, cells-below, out-shape, out-sound, out-blank}
+use Rattle.invariants.proofs.Kept.{Ready, cells-below, out-shape, out-sound, out-blank}
+use Rattle.machine.proofs.Facts.{setup-sites}
 
--- sound and in shape, and cells that hold nothing live are blank
-pub record Good (b : Board) : Type 0 where
+-- sound and in shape; and, of a clean board, cells that hold nothing live are blank
+pub record GoodIf (clean : Bool) (b : Board) : Type 0 where
   pub shape : BoardShape b
   pub sound : Sound b
-  pub blank : Blank b
+  pub blank : clean ≡ true → Blank b
 
-pub good-sites : (b : Board) → Good b → b .setup .n ≤ sites
+abbrev pub Good : Board → Type 0
+Good b = GoodIf true b
+
+pub good-sites : {clean : Bool} (b : Board) → GoodIf clean b → b .setup .n ≤ sites
 good-sites b g = (setup-sites (b .setup) (g .sound .setup)) .1
 
-pub good-flight : (b : Board) → Good b → FlightSound (b .table) (b .setup .n) (b .flight)
+pub good-flight : {clean : Bool} (b : Board) → GoodIf clean b → FlightSound (b .table) (b .setup .n) (b .flight)
 good-flight b g = flight-facts b (cells-below b (g .shape) (g .sound .each-cell)) (g .sound .each-cell)
 
 -- a place before the count holds a number of the record
@@ -78,7 +82,7 @@ at-listed (x ∷ l) (suc count) (suc i) h k = or-right (eqb (getD l i 0) x) (lis
 
 -- ---- a posting more in the table
 
-module _ (b : Board) (g : Good b) (posting : Posting) (room : b .table .count < capacity) (owner : posting .owner < b .setup .n) (fields : fieldsOk posting ≡ true) where
+module _ {clean : Bool} (b : Board) (g : GoodIf clean b) (posting : Posting) (room : b .table .count < capacity) (owner : posting .owner < b .setup .n) (fields : fieldsOk posting ≡ true) where
   abbrev more : Table
   more = tableWith (b .table) posting
 
@@ -92,18 +96,18 @@ module _ (b : Board) (g : Good b) (posting : Posting) (room : b .table .count < 
     | no d ↦ let k = offered-old (b .table) posting m d o in rw (grows .same m k) (old m k)
   ]
 
-  table-blank : Blank (boardTable b more)
+  table-blank : clean ≡ true → Blank (boardTable b more)
   unfolding row
-  table-blank = record {
-    sites-past = g .blank .sites-past;
+  table-blank e = record {
+    sites-past = g .blank e .sites-past;
     rows-past = λ m le. rows m le;
-    records-past = g .blank .records-past;
-    log-past = g .blank .log-past;
-    unloaded = g .blank .unloaded;
+    records-past = g .blank e .records-past;
+    log-past = g .blank e .log-past;
+    unloaded = g .blank e .unloaded;
   }
     where
       rows : (m : ℕ) → b .table .count + 1 ≤ m → row more m ≡ noPosting
-      rows m le = let d : m ≢ b .table .count = λ e. omega arith in getD-set-other (b .table .rows) (b .table .count) m posting noPosting d ∙ g .blank .rows-past m (omega arith)
+      rows m le = let d : m ≢ b .table .count = λ e. omega arith in getD-set-other (b .table .rows) (b .table .count) m posting noPosting d ∙ g .blank e .rows-past m (omega arith)
 
   table-shape : BoardShape (boardTable b more)
   table-shape = record {
@@ -159,8 +163,8 @@ module _ (b : Board) (g : Good b) (posting : Posting) (room : b .table .count < 
 
 -- ---- a message less in flight
 
-module _ (b : Board) (g : Good b) (form m from to : ℕ) (hm : m < capacity) (hf : from < sites) where
-  taken-good : Good (boardFlight b (takingOut (b .flight) form m from to))
+module _ {clean : Bool} (b : Board) (g : GoodIf clean b) (form m from to : ℕ) (hm : m < capacity) (hf : from < sites) where
+  taken-good : GoodIf clean (boardFlight b (takingOut (b .flight) form m from to))
   taken-good =
       let after = boardFlight b (takingOut (b .flight) form m from to) in
       let flight = taken-sound (b .table) (b .setup .n) (b .flight) form m from to (g .shape .flight) hm hf (good-flight b g) in
@@ -177,12 +181,12 @@ module _ (b : Board) (g : Good b) (form m from to : ℕ) (hm : m < capacity) (hf
           pool = g .shape .pool;
           log = g .shape .log;
         };
-        blank = record {
-          sites-past = g .blank .sites-past;
-          rows-past = g .blank .rows-past;
-          records-past = g .blank .records-past;
-          log-past = g .blank .log-past;
-          unloaded = taking-unloaded (b .flight) (g .shape .flight) (g .blank .unloaded) form m from to hm hf;
+        blank = λ e. record {
+          sites-past = g .blank e .sites-past;
+          rows-past = g .blank e .rows-past;
+          records-past = g .blank e .records-past;
+          log-past = g .blank e .log-past;
+          unloaded = taking-unloaded (b .flight) (g .shape .flight) (g .blank e .unloaded) form m from to hm hf;
         };
         sound = record {
           setup = g .sound .setup;
@@ -201,11 +205,11 @@ module _ (b : Board) (g : Good b) (form m from to : ℕ) (hm : m < capacity) (hf
 
 -- ---- the calls
 
-module _ (b : Board) (g : Good b) where
+module _ {clean : Bool} (b : Board) (g : GoodIf clean b) where
   shape : BoardShape b
   shape = g .shape
 
-  offer-good : (site kind account other amount : ℕ) (cut : Cut) → OfferTaken b site kind account other amount cut → Good (taking b (Offer site kind account other amount cut) .board)
+  offer-good : (site kind account other amount : ℕ) (cut : Cut) → OfferTaken b site kind account other amount cut → GoodIf clean (taking b (Offer site kind account other amount cut) .board)
   unfolding taking
   offer-good site kind account other amount cut k =
       let posting : Posting = record { owner = site; kind = kind; a = account; b = other; amount = amount } in
@@ -224,10 +228,10 @@ module _ (b : Board) (g : Good b) where
       rw (k .board) (record {
         shape = out-shape on site m (offerStep b site) cut ready step;
         sound = out-sound on site m (offerStep b site) cut ready step;
-        blank = out-blank on site m (offerStep b site) cut ready step (unfold onOffer in refl) blank;
+        blank = λ e. out-blank on site m (offerStep b site) cut ready step (unfold onOffer in refl) (blank e);
       })
 
-  receipt-good : (form m from to : ℕ) (cut : Cut) → ReceiptTaken b form m from to cut → Good (taking b (Receive form m from to cut) .board)
+  receipt-good : (form m from to : ℕ) (cut : Cut) → ReceiptTaken b form m from to cut → GoodIf clean (taking b (Receive form m from to cut) .board)
   unfolding taking
   receipt-good form m from to cut k =
       let few = good-sites b g in
@@ -241,10 +245,10 @@ module _ (b : Board) (g : Good b) where
       rw (k .board) (record {
         shape = out-shape on to m (receiptOf b form m from to) cut ready step;
         sound = out-sound on to m (receiptOf b form m from to) cut ready step;
-        blank = out-blank on to m (receiptOf b form m from to) cut ready step (receipt-record b form m from to) (after .blank);
+        blank = λ e. out-blank on to m (receiptOf b form m from to) cut ready step (receipt-record b form m from to) (after .blank e);
       })
     where
-      receipt-step : (g : Good b) → b .setup .n ≤ sites → MessageSound (b .table) (b .setup .n) (b .flight) form m from to → m < capacity
+      receipt-step : (g : GoodIf clean b) → b .setup .n ≤ sites → MessageSound (b .table) (b .setup .n) (b .flight) form m from to → m < capacity
           → StepSound (b .table) (b .setup .n) (b .log .count) m to (siteAt b to .finished) (receiptOf b form m from to)
       receipt-step g few message lt =
           let site-ok = g .sound .each-site to (k .acts .there) in
@@ -268,7 +272,7 @@ module _ (b : Board) (g : Good b) where
             ])
           ]
 
-  read-good : (site : ℕ) (cut : Cut) → ReadTaken b site cut → Good (taking b (Read site cut) .board)
+  read-good : (site : ℕ) (cut : Cut) → ReadTaken b site cut → GoodIf clean (taking b (Read site cut) .board)
   unfolding taking
   read-good site cut k =
       let few = good-sites b g in
@@ -282,13 +286,13 @@ module _ (b : Board) (g : Good b) where
       rw (k .board) (record {
         shape = out-shape b site m (readStep b site) cut ready step;
         sound = out-sound b site m (readStep b site) cut ready step;
-        blank = out-blank b site m (readStep b site) cut ready step (unfold onEntry in refl) (g .blank);
+        blank = λ e. out-blank b site m (readStep b site) cut ready step (unfold onEntry in refl) (g .blank e);
       })
     where
-      logged : Good b → listed (nextLogged b site) (numbersOf (b .log)) ≡ true
+      logged : GoodIf clean b → listed (nextLogged b site) (numbersOf (b .log)) ≡ true
       logged g = unfold numbersOf in at-listed (b .log .numbers) (b .log .count) (siteAt b site .place) (k .left) (omega (arith, g .sound .log .within, shape .log))
 
-  order-good : (m : ℕ) → OrderTaken b m → Good (taking b (Order m) .board)
+  order-good : (m : ℕ) → OrderTaken b m → GoodIf clean (taking b (Order m) .board)
   unfolding taking
   order-good m k =
       let o = g .sound .pool m (k .pooled) in
@@ -341,16 +345,16 @@ module _ (b : Board) (g : Good b) where
             carries = λ h. i .carries (before x h);
           };
         };
-        blank = record {
-          sites-past = g .blank .sites-past;
-          rows-past = g .blank .rows-past;
-          records-past = g .blank .records-past;
-          log-past = append-past (b .log) m (g .blank .log-past);
-          unloaded = g .blank .unloaded;
+        blank = λ e. record {
+          sites-past = g .blank e .sites-past;
+          rows-past = g .blank e .rows-past;
+          records-past = g .blank e .records-past;
+          log-past = append-past (b .log) m (g .blank e .log-past);
+          unloaded = g .blank e .unloaded;
         };
       })
 
-  crash-good : (site : ℕ) → CrashTaken b site → Good (taking b (Crash site) .board)
+  crash-good : (site : ℕ) → CrashTaken b site → GoodIf clean (taking b (Crash site) .board)
   unfolding taking
   crash-good site k =
       rw (k .board) (record {
@@ -380,31 +384,31 @@ module _ (b : Board) (g : Good b) where
           log = g .sound .log;
           each-entry = λ x lx. let i = g .sound .each-entry x lx in record { apart = i .apart; finished = i .finished; carries = i .carries };
         };
-        blank = record {
-          sites-past = g .blank .sites-past;
-          rows-past = g .blank .rows-past;
-          records-past = g .blank .records-past;
-          log-past = g .blank .log-past;
-          unloaded = g .blank .unloaded;
+        blank = λ e. record {
+          sites-past = g .blank e .sites-past;
+          rows-past = g .blank e .rows-past;
+          records-past = g .blank e .records-past;
+          log-past = g .blank e .log-past;
+          unloaded = g .blank e .unloaded;
         };
       })
 
 -- ---- every call, and a run
 
-pub call-good : (b : Board) → Good b → (c : Call) → Good (taking b c .board)
-call-good b g c = elim (test (accepted (taking b c .answer))) [
+pub call-good : {clean : Bool} (b : Board) → GoodIf clean b → (c : Call) → GoodIf clean (taking b c .board)
+call-good {clean = clean} b g c = elim (test (accepted (taking b c .answer))) [
   | inl t ↦ taken c t
   | inr t ↦ rw (refused-same b c t) g
 ]
   where
-    taken : (c : Call) → accepted (taking b c .answer) ≡ true → Good (taking b c .board)
+    taken : (c : Call) → accepted (taking b c .answer) ≡ true → GoodIf clean (taking b c .board)
     taken (Offer site kind account other amount cut) t = offer-good b g site kind account other amount cut (offer-taken b site kind account other amount cut (unfold taking in t))
     taken (Receive form m from to cut) t = receipt-good b g form m from to cut (receipt-taken b form m from to cut (unfold taking in t))
     taken (Order m) t = order-good b g m (order-taken b m (unfold taking in t))
     taken (Read site cut) t = read-good b g site cut (read-taken b site cut (unfold taking in t))
     taken (Crash site) t = crash-good b g site (crash-taken b site (unfold taking in t))
 
-pub run-good : (b : Board) (l : List Call) → Good b → Good (running b l)
+pub run-good : {clean : Bool} (b : Board) (l : List Call) → GoodIf clean b → GoodIf clean (running b l)
 unfolding running
 run-good b [] g = g
 run-good b (c ∷ l) g = run-good (taking b c .board) l (call-good b g c)

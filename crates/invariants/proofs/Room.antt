@@ -21,7 +21,7 @@ use Rattle.posting.specs.Conflicts.{offered}
 use Rattle.posting.specs.ConflictLaws.{offered-below}
 use Rattle.posting.specs.Records.{numbersOf, contains}
 use Rattle.posting.specs.RecordLaws.{Places, length-numbers}
-use Rattle.invariants.proofs.Sound.{RecordSound}
+use Rattle.machine.proofs.SoundFacts.{RecordSound}
 
 -- the list without x
 without : ℕ → List ℕ → List ℕ

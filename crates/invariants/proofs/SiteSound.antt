@@ -31,8 +31,8 @@ use Rattle.posting.specs.RecordLaws.{Places, append-full, append-room, append-p
 use Rattle.site.specs.declared.Site.{Site}
 use Rattle.site.specs.Sites.{heardFor, goodFor, plus, plusIf, siteSeen, siteHeard, siteStepped, siteFinished, siteGot, sitePlace, siteDelivered}
 use Rattle.site.specs.Steps.{delivering, deliveringAll}
-use Rattle.invariants.proofs.Shapes.{SiteShape}
-use Rattle.invariants.proofs.Sound.{Offers, MaskSound, RecordSound, SiteSound}
+use Rattle.machine.proofs.Shapes.{SiteShape}
+use Rattle.machine.proofs.SoundFacts.{Offers, MaskSound, RecordSound, SiteSound}
 
 -- ---- sets
 

@@ -38,12 +38,12 @@ use Rattle.machine.specs.Calls.{starting}
 use Rattle.machine.specs.Runs.{taking, accepted, running}
 use Rattle.machine.specs.History.{acceptedCalls, offers, orders, reads, broughtDown}
 use Rattle.invariants.proofs.Blank.{Blank}
-use Rattle.invariants.proofs.Shapes.{SiteShape, BoardShape}
-use Rattle.invariants.proofs.Sound.{to-all, Offers, MaskSound, RecordSound, SiteSound, TallySound, Sound}
-use Rattle.invariants.proofs.SoundTest.{facts-sound}
+use Rattle.machine.proofs.Shapes.{SiteShape, BoardShape}
+use Rattle.machine.proofs.SoundFacts.{to-all, Offers, MaskSound, RecordSound, SiteSound, TallySound, Sound}
+use Rattle.machine.proofs.SoundTest.{facts-sound}
 use Rattle.invariants.proofs.Judged.{accepted-none}
 use Rattle.invariants.proofs.FlightSound.{facts-flight}
-use Rattle.invariants.proofs.Kept.{setup-sites}
+use Rattle.machine.proofs.Facts.{setup-sites}
 use Rattle.invariants.proofs.History.{Done, call-done}
 use Rattle.invariants.proofs.Reached.{Good, good-sites, call-good, run-good}
 
@@ -146,7 +146,7 @@ module _ (setup : Setup) (ok : setupOk setup ≡ true) where
 
   pub fresh-good : Good b
   fresh-good = record {
-    blank = fresh-blank;
+    blank = λ e. fresh-blank;
     shape = fresh-shape;
     sound = record {
       setup = ok;
@@ -210,7 +210,7 @@ module _ (n f matrix : ℕ) (ok : accepted (starting n f matrix .answer) ≡ tru
 
   -- Cells that hold nothing live are blank.
   pub reached-blank : Blank (running (starting n f matrix .board) calls)
-  reached-blank = reached-good .blank
+  reached-blank = reached-good .blank refl
 
   -- What the list has done.
   pub reached-done : Done (running (starting n f matrix .board) calls) (acceptedCalls (starting n f matrix .board) calls)

@@ -28,8 +28,8 @@ use Rattle.site.specs.declared.Tally.{Tally}
 use Rattle.site.specs.Sites.{heardFor, goodFor, plus, plusIf, siteHeard, siteDelivered}
 use Rattle.site.specs.Sends.{Send, first, second, third, deliver, entry, toAll, toOthers, Step}
 use Rattle.site.specs.Steps.{ownerOf, alone, quorum, majority, noStep, onOffer, onFirst, stepSecond, onSecond, stepThird, tallied, onThird, onDeliver, onEntry, deliveredSite, deliveringAll}
-use Rattle.invariants.proofs.Shapes.{SiteShape}
-use Rattle.invariants.proofs.Sound.{Offers, MaskSound, RecordSound, SiteSound, TallySound}
+use Rattle.machine.proofs.Shapes.{SiteShape}
+use Rattle.machine.proofs.SoundFacts.{Offers, MaskSound, RecordSound, SiteSound, TallySound}
 use Rattle.invariants.proofs.SiteSound.{offers-with, offers-withIf, offers-join, offers-meet, shape-withIf, mask-plus, mask-plusIf, AllOffered, deliveringAll-sound, deliveringAll-places, site-seen, site-heard, site-stepped, site-finished, site-got, site-place, site-delivered}
 
 pub all-offered : (t : Table) (m : ℕ) → offered t m ≡ true → (l : List ℕ) → ((x : ℕ) → listed x l ≡ true → offered t x ≡ true) → AllOffered t (l ++ (m ∷ []))

@@ -4,3 +4,5 @@ pub mod Calls
 pub mod Runs
 pub mod History
 pub mod Figures
+pub mod ByMask
+pub mod SoundParts

@@ -10,6 +10,14 @@ use site::Setup;
 use site::Site;
 use site::Tally;
 
+pub mod calls;
+pub mod figures;
+pub mod refusals;
+pub mod service;
+pub mod sound;
+pub mod start;
+pub mod steps;
+
 pub struct Board {
     pub setup: Setup,
     // the sites that are down

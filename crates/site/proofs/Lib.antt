@@ -1,6 +1,8 @@
 -- What the proofs of the steps share.
 -- Rests on the specs.
 pub mod Counts
+pub mod Firsts
+pub mod Fits
 pub mod Second
 pub mod Third
 pub mod Delivered

@@ -31,6 +31,21 @@ onlySite p = cond (ltb p sites) (2 ^ p) 0
 unfoldable pub everySite : ℕ → ℕ
 everySite n = cond (ltb n sites) (2 ^ n - 1) 127
 
+-- a mask with site p; and if so
+abbrev pub withSite : ℕ → ℕ → ℕ
+withSite mask p = bitOr mask (onlySite p)
+
+abbrev pub withSiteIf : ℕ → ℕ → Bool → ℕ
+withSiteIf mask p so = cond so (withSite mask p) mask
+
+-- the first j sites of a mask, of those below n
+abbrev pub nextSite : ℕ → ℕ → ℕ → ℕ → ℕ
+nextSite low mask p j = cond (leb j (ones low)) low (withSiteIf low p (hasBit mask p))
+
+unfoldable pub firstSites : ℕ → ℕ → ℕ → ℕ
+firstSites zero mask j = 0
+firstSites (suc n) mask j = nextSite (firstSites n mask j) mask n j
+
 -- ---- what is sent, as a list
 
 -- the number past the forms: the entry into the pool
@@ -86,13 +101,6 @@ firstByMask setup table site tally m =
 abbrev pub noStepByMask : Site → Tally → Stepped
 noStepByMask site tally =
     record { site = site; tally = tally; sends = record { form = FIRST; to = 0; good = false; carried = emptySet }; delivers = false }
-
--- a mask with site p; and if so
-abbrev pub withSite : ℕ → ℕ → ℕ
-withSite mask p = bitOr mask (onlySite p)
-
-abbrev pub withSiteIf : ℕ → ℕ → Bool → ℕ
-withSiteIf mask p so = cond so (withSite mask p) mask
 
 -- the sites of a mask are n - f or more
 abbrev pub reached : Setup → ℕ → Bool

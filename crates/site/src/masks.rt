@@ -1,8 +1,9 @@
 // Masks of sites: a byte has a bit for each of at most 7 sites.
 // Rests on nothing.
 ghost use mathlib.Core.Path.{_≡_};
+ghost use Rattle.site.specs.Sites.{sites};
 ghost use Rattle.sets.specs.Masks.{hasBit};
-ghost use Rattle.site.specs.ByMask.{onlySite, everySite, withSite, withSiteIf, relayTo};
+ghost use Rattle.site.specs.ByMask.{onlySite, everySite, withSite, withSiteIf, nextSite, firstSites, relayTo};
 
 // How many sites a mask has room for, as many as a board.
 const LIMIT: u8 = 7;
@@ -64,4 +65,27 @@ pub fn relay_to(n: u8, p: u8, owner: u8) -> u8
     let every = every_site(n);
     let own = only_site(p);
     every & !own
+}
+
+// The sites of a mask found so far, and site p if the mask has it, up to j of them.
+fn next_site(low: u8, mask: u8, p: u8, j: usize) -> u8
+    ensures { λ r. ⌜ r ≡ nextSite low mask p j ⌝ }
+{
+    let count = u8::count_ones(low) as usize;
+    if j <= count {
+        return low;
+    }
+    let has = has_site(mask, p);
+    with_site_if(low, p, has)
+}
+
+// The first j sites of a mask, in rising number: those that a step cut after j sends reaches.
+pub fn first_sites(mask: u8, j: usize) -> u8
+    ensures { λ r. ⌜ r ≡ firstSites sites mask j ⌝ }
+{
+    let mut low: u8 = 0;
+    for p in 0..LIMIT {
+        low = next_site(low, mask, p, j);
+    }
+    low
 }

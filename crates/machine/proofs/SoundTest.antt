@@ -31,11 +31,11 @@ use Rattle.site.specs.Steps.{ownerOf}
 use Rattle.flight.specs.Flights.{receiversIn, pairs, cells, cellAt, carriedBy}
 use Rattle.flight.specs.CellLaws.{cell-in, cell-below}
 use Rattle.flight.specs.CarriedLaws.{set-shape-in}
 use Rattle.machine.specs.declared.Board.{Board}
 use Rattle.machine.specs.Boards.{siteAt, tallyAt, entryAt}
 use Rattle.machine.specs.Soundness.{allOf, setupOk, sitesOk, crashesOk, rowOk, offeredSet, siteOk, tallyOk, cellOk, cellsOk, entryOk, isSound}
-use Rattle.invariants.proofs.Shapes.{BoardShape}
-use Rattle.invariants.proofs.Sound.{AllTrue, of-all, to-all, Offers, CellSound, EntrySound, Sound, no-bits, set-facts, facts-set, record-facts, facts-record, site-facts, facts-site, tally-facts, facts-tally}
+use Rattle.machine.proofs.Shapes.{BoardShape}
+use Rattle.machine.proofs.SoundFacts.{AllTrue, of-all, to-all, Offers, CellSound, EntrySound, Sound, no-bits, set-facts, facts-set, record-facts, facts-record, site-facts, facts-site, tally-facts, facts-tally}
 
 -- ---- cells, by number and by form, posting and sender
 
@@ -195,7 +195,7 @@ module _ (b : Board) where
 
 -- ---- all of it
 
-module _ (b : Board) (shape : BoardShape b) where
+module _ (b : Board) where
   abbrev tests : List Bool
   tests =
       setupOk (b .setup)
@@ -206,13 +206,13 @@ module _ (b : Board) (shape : BoardShape b) where
       ∷ allBelow (λ m. tallyOk b (offeredSet b) m (tallyAt b m)) capacity
       ∷ cellsOk b (offeredSet b) 0 (b .flight .masks)
       ∷ subset (b .pool) (offeredSet b)
       ∷ Rattle.machine.specs.Soundness.recordOk b (b .log)
       ∷ allBelow (entryOk b (offeredSet b)) capacity
       ∷ []
 
-  pub sound-facts : isSound b ≡ true → Sound b
+  pub sound-facts : length (b .flight .masks) ≡ cells → isSound b ≡ true → Sound b
   unfolding isSound
-  sound-facts h =
+  sound-facts long h =
       let all = of-all tests h in
       let row-at : (m : ℕ) → offered (b .table) m ≡ true → rowOk b m ≡ true = λ m o. all-at (rowOk b) (b .table .count) m (all .1 .1 .0) ((offered-below (b .table) m o) .0) in
       record {
@@ -224,16 +224,16 @@ module _ (b : Board) (shape : BoardShape b) where
         each-site = λ p lt. site-facts b (siteAt b p) (all-at (λ p. siteOk b (offeredSet b) (siteAt b p)) (b .setup .n) p (all .1 .1 .1 .1 .0) lt);
         each-tally = λ m lt. tally-facts b m (tallyAt b m) (all-at (λ m. tallyOk b (offeredSet b) m (tallyAt b m)) capacity m (all .1 .1 .1 .1 .1 .0) lt);
         each-cell = λ form m from hform hm hf.
-            let k : cellAt form m from < length (b .flight .masks) = omega (arith, shape .flight .masks .long, cell-below form m from hform hm hf) in
+            let k : cellAt form m from < length (b .flight .masks) = omega (arith, long, cell-below form m from hform hm hf) in
             cell-facts b form m from hform hm hf (rw zero-add at (cells-at b (offeredSet b) 0 (b .flight .masks) (all .1 .1 .1 .1 .1 .1 .0) (cellAt form m from) k));
         pool = set-facts b (b .pool) (all .1 .1 .1 .1 .1 .1 .1 .0);
         log = record-facts b (b .log) (all .1 .1 .1 .1 .1 .1 .1 .1 .0);
         each-entry = λ m lt. entry-facts b m (all-at (entryOk b (offeredSet b)) capacity m (all .1 .1 .1 .1 .1 .1 .1 .1 .1 .0) lt);
       }
 
-  pub facts-sound : b .setup .n ≤ sites → Sound b → isSound b ≡ true
+  pub facts-sound : BoardShape b → b .setup .n ≤ sites → Sound b → isSound b ≡ true
   unfolding isSound
-  facts-sound few i =
+  facts-sound shape few i =
       to-all tests (
         i .setup,
         (
@@ -249,7 +249,7 @@ module _ (b : Board) (shape : BoardShape b) where
                 (
                   all-from (λ m. tallyOk b (offeredSet b) m (tallyAt b m)) capacity (λ m lt. facts-tally b m (tallyAt b m) (shape .each-union m lt) (i .each-tally m lt)),
                   (
-                    all-cells b (offeredSet b) 0 (b .flight .masks) cells,
+                    all-cells b (offeredSet b) 0 (b .flight .masks) each,
                     (
                       facts-set b (b .pool) (shape .pool) (i .pool),
                       (
@@ -265,8 +265,8 @@ module _ (b : Board) (shape : BoardShape b) where
         ),
       )
     where
-      cells : (k : ℕ) → k < length (b .flight .masks) → cellOk b (offeredSet b) (0 + k) (getD (b .flight .masks) k 0) ≡ true
-      cells k lt =
+      each : (k : ℕ) → k < length (b .flight .masks) → cellOk b (offeredSet b) (0 + k) (getD (b .flight .masks) k 0) ≡ true
+      each k lt =
           let form = k / (capacity * sites) in
           let m = k / sites % capacity in
           let from = k % sites in

@@ -32,10 +32,10 @@ use Rattle.site.specs.Sites.{sites, heardFor, goodFor}
 use Rattle.site.specs.Sends.{THIRD, forms}
 use Rattle.site.specs.Steps.{ownerOf}
 use Rattle.flight.specs.Flights.{receiversIn, carriedBy}
 use Rattle.machine.specs.declared.Board.{Board}
 use Rattle.machine.specs.Boards.{siteAt, tallyAt, entryAt}
 use Rattle.machine.specs.Soundness.{allOf, setupOk, rowOk, offeredSet, sitesBelow, maskOk, recordOk, siteOk, tallyOk, cellOk, cellsOk, entryOk, isSound}
-use Rattle.invariants.proofs.Shapes.{SiteShape, BoardShape}
+use Rattle.machine.proofs.Shapes.{SiteShape, BoardShape}
 
 -- ---- tests of a list, as facts
 

@@ -1,0 +1,31 @@
+-- `crash` meets its contract.
+-- Assumes nothing.
+use mathlib.Core.Path.{sym, _∙_}
+use Rattle.machine.specs.Calls.{crashing}
+use Rattle.machine.proofs.Causes.{unsound-refused}
+use borrow.Author.Needs.{needs}
+use Rattle.machine.proofs.Board.crash.Statement.{statement}
+use Rattle.machine.proofs.Board.crash.Tie as tie
+
+is-sound-requires : tie.Need-is-sound-requires
+is-sound-requires c κs = search needs
+
+crash-sound-requires : tie.Need-crash-sound-requires
+crash-sound-requires c κs =
+    sym (c .before .is-sound .ensures) ∙ c .if1 .taken
+
+returns : tie.Need-returns
+returns c = search needs
+
+refused-requires : tie.Need-refused-requires
+refused-requires c κs = search needs
+
+returns-2 : tie.Need-returns-2
+unfolding crashing
+returns-2 c =
+    let at = c .before .before in
+    c .refused .ensures ∙ unsound-refused (at .before .args .self) (sym (at .is-sound .ensures) ∙ c .before .if1 .left) _ _
+
+pub crash-spec : {M : Type 1} → statement M
+crash-spec =
+    tie.close (tie.spec is-sound-requires crash-sound-requires returns refused-requires returns-2)

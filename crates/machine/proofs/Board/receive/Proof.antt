@@ -1,0 +1,32 @@
+-- `receive` meets its contract.
+-- Assumes nothing.
+use mathlib.Core.Path.{sym, _∙_}
+use Rattle.machine.specs.Calls.{receiving}
+use Rattle.machine.proofs.Causes.{unsound-refused}
+use borrow.Author.Needs.{needs}
+use Rattle.machine.proofs.Board.receive.Statement.{statement}
+use Rattle.machine.proofs.Board.receive.Tie as tie
+
+is-sound-requires : tie.Need-is-sound-requires
+is-sound-requires c κs = search needs
+
+receive-sound-requires : tie.Need-receive-sound-requires
+receive-sound-requires c κs =
+    sym (c .before .is-sound .ensures) ∙ c .if1 .taken
+
+returns : tie.Need-returns
+returns c = search needs
+
+refused-requires : tie.Need-refused-requires
+refused-requires c κs = search needs
+
+returns-2 : tie.Need-returns-2
+unfolding receiving
+returns-2 c =
+    let at = c .before .before in
+    c .refused .ensures ∙ unsound-refused (at .before .args .self) (sym (at .is-sound .ensures) ∙ c .before .if1 .left) _ _
+
+pub receive-spec : {M : Type 1} → statement M
+receive-spec =
+    tie.close
+    (tie.spec is-sound-requires receive-sound-requires returns refused-requires returns-2)

@@ -1,0 +1,171 @@
+-- What each return of receive's and read's code gives is what Calls says: one law for each return.
+-- Rests on Causes, Placed and Facts. Assumes nothing.
+use Prim.Native.Nat.{ℕ, _<_, _≤_, _^_}
+use mathlib.Core.Path.{_≡_, refl, sym, ap, _∙_}
+use mathlib.Core.Logic.{inl, inr, _≢_}
+use mathlib.Core.Bool.{Bool, true, false, cond, not, _&&_, _||_}
+use mathlib.Core.List.{List, [], _∷_, _++_, append-nil}
+use native.Mathlib.Omega.{arith}
+use lib.Dec.{eqb, ltb, leb}
+use lib.ListN.{length}
+use lib.Count.{ones}
+use borrow.Author.Tests.{le-leb, lt-leb}
+use Rattle.sets.specs.declared.Set.{Set}
+use Rattle.sets.specs.Sets.{capacity, has, without}
+use Rattle.posting.specs.declared.Posting.{Posting}
+use Rattle.posting.specs.Kinds.{fieldsOk}
+use Rattle.posting.specs.Records.{append}
+use Rattle.site.specs.declared.Site.{Site}
+use Rattle.site.specs.declared.Stepped.{Stepped}
+use Rattle.site.specs.Sites.{sites, plus, siteDelivered}
+use Rattle.site.specs.Sends.{Step}
+use Rattle.site.specs.Steps.{ownerOf, onOffer, onEntry}
+use Rattle.site.specs.ByMask.{stepOf, offerByMask, readSite, deliveringEntry}
+use Rattle.site.specs.ByMaskLaws.{offer-is}
+use Rattle.site.proofs.Fits.{offer-fits}
+use Rattle.flight.specs.Flights.{cells, inFlight, flightOf, takingFrom, goodTaken, setTaken, takingOut}
+use Rattle.machine.specs.declared.Board.{Board}
+use Rattle.machine.specs.declared.Cut.{Cut}
+use Rattle.machine.specs.declared.Cut.the-variants.{Whole, After}
+use Rattle.machine.specs.declared.Outcome.{Outcome}
+use Rattle.machine.specs.declared.Answer.the-variants.{Done, Offered, Refused}
+use Rattle.machine.specs.Boards.{siteAt, tallyAt, entryAt, loggedAt, isDown, tableWith, boardTable, boardFlight, boardDown, boardPool}
+use Rattle.machine.specs.Soundness.{isSound}
+use Rattle.machine.specs.Calls.{Cause, cause, judged, carriedOut, receiptOf, crashesSpent, isCut, cutAfter, noSuchSite, offering, receiving, ordering, reading, crashing}
+use Rattle.machine.specs.ByMask.{firstCause, siteCauses, messageCauses, offerCauses, cutCauses, refusing, taken}
+use Rattle.machine.proofs.Causes.{Numbered, unsound, stops, goes-on, passes, one-cause, one-applies, one-passes}
+use Rattle.machine.proofs.Placed.{sends-length, receipt, receipt-fits, receipt-is, boardRead, read-whole, read-cut}
+use Rattle.machine.proofs.Facts.{few, message-owner, Placed, message-placed}
+
+-- ---- receive
+
+module _ (b : Board) (sound : isSound b ≡ true) (long : length (b .flight .masks) ≡ cells) (form m from to : ℕ) (cut : Cut)
+    (why : ℕ) (tested : why ≡ firstCause (messageCauses (b .setup .n) (b .down) from to)) where
+  abbrev step : Stepped
+  step = receipt b form m from to
+
+  abbrev sends : ℕ
+  sends = length (receiptOf b form m from to .sends)
+
+  abbrev after-taking : Step → Board
+  after-taking s = carriedOut (boardFlight b (takingOut (b .flight) form m from to)) to m s cut
+
+  abbrev received : Outcome
+  received = taken (after-taking (receiptOf b form m from to))
+
+  abbrev sites-first : List Cause
+  sites-first = messageCauses (b .setup .n) (b .down) from to
+
+  abbrev coming : List Cause
+  coming = one-cause 11 (not (inFlight (b .flight) form m from to))
+
+  abbrev cuts : ℕ → List Cause
+  cuts k = cutCauses (b .setup .f) (b .down) k cut
+
+  pub receive-site : why ≢ 0 → refusing b why ≡ receiving b form m from to cut
+  unfolding receiving
+  receive-site d = stops b sound received sites-first (coming ++ cuts sends) why tested d
+
+  module _ (z : why ≡ 0) where
+    first-passed : judged (unsound b ++ (sites-first ++ (coming ++ cuts sends))) b received ≡ judged (unsound b ++ (coming ++ cuts sends)) b received
+    first-passed = goes-on b sound received sites-first (coming ++ cuts sends) why (omega arith, (omega arith, tt)) tested z
+
+    pub receive-none : inFlight (b .flight) form m from to ≡ false → refusing b 11 ≡ receiving b form m from to cut
+    unfolding receiving
+    receive-none f =
+        stops b sound received coming (cuts sends) 11 (one-applies 11 (not (inFlight (b .flight) form m from to)) (rw f)) (λ e. absurd (omega arith))
+        ∙ sym first-passed
+
+    module _ (t : inFlight (b .flight) form m from to ≡ true) (late : ℕ) (tested-cut : late ≡ firstCause (cuts (ones (step .sends .to)))) where
+      second-passed : judged (unsound b ++ (coming ++ cuts sends)) b received ≡ judged (unsound b ++ cuts sends) b received
+      second-passed = goes-on b sound received coming (cuts sends) 0 (omega arith, tt) (one-passes 11 (not (inFlight (b .flight) form m from to)) (rw t)) refl
+
+      is : stepOf m step ≡ receiptOf b form m from to
+      is = receipt-is b form m from to (few b long sound) (message-placed b form m from to t .from-below) (message-owner b long sound form m from to t)
+
+      cut-tested : late ≡ firstCause (cuts sends)
+      cut-tested =
+          tested-cut
+          ∙ ap (λ (k : ℕ). firstCause (cuts k)) (sym (sends-length b to m step (receipt-fits b form m from to)) ∙ ap (λ (s : Step). length (s .sends)) is)
+
+      pub receive-late : late ≢ 0 → refusing b late ≡ receiving b form m from to cut
+      unfolding receiving
+      receive-late d = stops b sound received (cuts sends) [] late cut-tested d ∙ sym (first-passed ∙ second-passed)
+
+      pub receive-done : late ≡ 0 → (after : Board) → after ≡ after-taking (stepOf m step) → taken after ≡ receiving b form m from to cut
+      unfolding receiving
+      receive-done x after e =
+          rw (e, is) (sym (first-passed ∙ second-passed ∙ passes b sound received (cuts sends) late (omega arith, (omega arith, tt)) cut-tested x))
+
+-- the board after the message is taken out, from the results of the code's calls
+pub taken-law :
+    (b : Board) (form m from to : ℕ) (cut : Cut) (s : Stepped) (masks good carried : List ℕ) (after : Board)
+    → s ≡ receipt b form m from to → masks ≡ takingFrom (b .flight .masks) form m from to
+    → good ≡ goodTaken (b .flight .good) form m from to → carried ≡ setTaken (b .flight .carried) form m from
+    → after ≡ carriedOut (boardFlight b (flightOf masks good carried)) to m (stepOf m s) cut
+    → after ≡ carriedOut (boardFlight b (takingOut (b .flight) form m from to)) to m (stepOf m (receipt b form m from to)) cut
+unfolding takingOut
+taken-law b form m from to cut s masks good carried after e0 e1 e2 e3 e4 = e4 ∙ rw (e3, e2, e1, e0)
+
+-- ---- read
+
+module _ (b : Board) (sound : isSound b ≡ true) (site : ℕ) (cut : Cut)
+    (why : ℕ) (tested : why ≡ firstCause (siteCauses (b .setup .n) (b .down) site)) where
+  abbrev logged : ℕ
+  logged = loggedAt b (siteAt b site .place)
+
+  abbrev entry-step : Step
+  entry-step = onEntry (siteAt b site) (tallyAt b logged) logged (entryAt b logged)
+
+  abbrev has-read : Outcome
+  has-read = taken (carriedOut b site logged entry-step cut)
+
+  abbrev site-first : List Cause
+  site-first = siteCauses (b .setup .n) (b .down) site
+
+  abbrev ended : List Cause
+  ended = one-cause 13 (leb (b .log .count) (siteAt b site .place))
+
+  abbrev no-sends : List Cause
+  no-sends = cutCauses (b .setup .f) (b .down) 0 cut
+
+  abbrev read-causes : ℕ → List Cause
+  read-causes k = unsound b ++ (site-first ++ (ended ++ cutCauses (b .setup .f) (b .down) k cut))
+
+  reads-so : reading b site cut ≡ judged (read-causes 0) b has-read
+  unfolding reading onEntry
+  reads-so = refl
+
+  pub read-site : why ≢ 0 → refusing b why ≡ reading b site cut
+  read-site d = stops b sound has-read site-first (ended ++ no-sends) why tested d ∙ sym reads-so
+
+  module _ (z : why ≡ 0) where
+    site-passed : judged (read-causes 0) b has-read ≡ judged (unsound b ++ (ended ++ no-sends)) b has-read
+    site-passed = goes-on b sound has-read site-first (ended ++ no-sends) why (omega arith, (omega arith, tt)) tested z
+
+    pub read-ended : b .log .count ≤ siteAt b site .place → refusing b 13 ≡ reading b site cut
+    read-ended h =
+        stops b sound has-read ended no-sends 13 (one-applies 13 (leb (b .log .count) (siteAt b site .place)) (le-leb (b .log .count) (siteAt b site .place) h)) (λ e. absurd (omega arith))
+        ∙ sym (reads-so ∙ site-passed)
+
+    module _ (left : siteAt b site .place < b .log .count) (late : ℕ) (tested-cut : late ≡ firstCause no-sends) where
+      log-passed : judged (unsound b ++ (ended ++ no-sends)) b has-read ≡ judged (unsound b ++ no-sends) b has-read
+      log-passed = goes-on b sound has-read ended no-sends 0 (omega arith, tt) (one-passes 13 (leb (b .log .count) (siteAt b site .place)) (lt-leb (b .log .count) (siteAt b site .place) left)) refl
+
+      pub read-late : late ≢ 0 → refusing b late ≡ reading b site cut
+      read-late d = stops b sound has-read no-sends [] late tested-cut d ∙ sym (reads-so ∙ site-passed ∙ log-passed)
+
+      pub read-done : late ≡ 0 → (after : Board) → after ≡ carriedOut b site logged entry-step cut → taken after ≡ reading b site cut
+      read-done x after e = rw e (sym (reads-so ∙ site-passed ∙ log-passed ∙ passes b sound has-read no-sends late (omega arith, (omega arith, tt)) tested-cut x))
+
+      module _ (within : b .log .count ≤ capacity) (x : late ≡ 0) (next : Site) (stepped : next ≡ readSite (siteAt b site)) where
+        placed-below : siteAt b site .place < capacity
+        placed-below = omega (arith, within, left)
+
+        pub read-whole-law : (after : Site) → cut ≡ Whole → after ≡ siteDelivered next (deliveringEntry (next .delivered) (entryAt b logged) logged)
+            → taken (boardRead b site after (b .down)) ≡ reading b site cut
+        read-whole-law after e d = read-done x _ (rw (e, d, stepped) (sym (read-whole b site logged (entryAt b logged) placed-below)))
+
+        pub read-cut-law : (j down : ℕ) → cut ≡ After j → down ≡ plus (b .down) site
+            → taken (boardRead b site next down) ≡ reading b site cut
+        read-cut-law j down e d = read-done x _ (rw (e, d, stepped) (sym (read-cut b site logged (entryAt b logged) placed-below j)))

@@ -1,0 +1,257 @@
+// The calls of a board that is known to be sound: offer, receive, order, read and crash, whole or cut, each handing board and answer back.
+// Rests on refusals and steps, on flight, site, posting and sets.
+ghost use Prim.Native.Nat.{_<_, _^_};
+ghost use mathlib.Core.Path.{_≡_};
+ghost use mathlib.Core.Bool.{true};
+ghost use Rattle.sets.specs.Sets.{capacity};
+ghost use Rattle.site.specs.Sites.{sites};
+ghost use Rattle.site.specs.ByMask.{stepOf};
+ghost use Rattle.machine.specs.Soundness.{isSound};
+ghost use Rattle.machine.specs.Calls.{carriedOut, offering, receiving, ordering, reading, crashing};
+ghost use Rattle.machine.specs.ByMask.{placed, refusing, taken};
+use crate::Answer;
+use crate::Board;
+use crate::Cut;
+use crate::Outcome;
+use crate::refusals::cut_refusal;
+use crate::refusals::message_refusal;
+use crate::refusals::offer_refusal;
+use crate::refusals::site_refusal;
+use crate::steps::cut_after;
+use crate::steps::entered;
+use crate::steps::enters;
+use crate::steps::receipt;
+use crate::steps::settle;
+use crate::steps::with_row;
+use posting::Posting;
+use site::Stepped;
+use site::masks::with_site;
+
+impl Board {
+    // Site p has taken a step about m: its sets change, its sends go out, and it delivers.
+    fn place(self, p: usize, m: usize, step: Stepped) -> Board
+        requires { ⌜ (p < sites) × (m < capacity) ⌝ }
+        ensures { λ r. ⌜ r ≡ placed self p m step ⌝ }
+    {
+        let mut d = self;
+        let tally = step.tally;
+        let sends = step.sends;
+        let form = sends.form as usize;
+        let load = sends.carried;
+        let site = settle(step, m);
+        d.sites[p] = site;
+        d.tallies[m] = tally;
+        flight::send(&mut d.flight.masks, form, m, p, sends.to);
+        flight::send_good(&mut d.flight.good, form, m, p, sends.to, sends.good);
+        flight::send_carried(&mut d.flight.carried, form, m, p, sends.to, load);
+        let so = enters(sends);
+        let pool = d.pool;
+        let more = pool.with_if(m, so);
+        d.pool = more;
+        let old = d.entries[m];
+        let entry = entered(old, sends);
+        d.entries[m] = entry;
+        d
+    }
+
+    // The same, whole or cut.
+    fn carry_out(self, p: usize, m: usize, step: Stepped, cut: Cut) -> Board
+        requires { ⌜ (p < sites) × (m < capacity) × (step .sends .to < 2 ^ sites) ⌝ }
+        ensures { λ r. ⌜ r ≡ carriedOut self p m (stepOf m step) cut ⌝ }
+    {
+        match cut {
+            Cut::Whole => {
+                return self.place(p, m, step);
+            }
+            Cut::After(j) => {
+                let part = cut_after(step, j);
+                let mut d = self.place(p, m, part);
+                d.down = with_site(d.down, p as u8);
+                return d;
+            }
+        }
+    }
+
+    // Offer, of a sound board.
+    pub fn offer_sound(
+        self,
+        site: usize,
+        kind: u8,
+        account: u8,
+        other: u8,
+        amount: u32,
+        cut: Cut,
+    ) -> Outcome
+        requires { ⌜ isSound self ≡ true ⌝ }
+        ensures { λ r. ⌜ r ≡ offering self site kind account other amount cut ⌝ }
+    {
+        let setup = self.setup;
+        let why = site_refusal(setup.n, self.down, site);
+        if why != 0 {
+            return refused(self, why);
+        }
+        let posting = Posting {
+            owner: site as u8,
+            kind: kind,
+            a: account,
+            b: other,
+            amount: amount,
+        };
+        let table = self.table;
+        let m = table.count;
+        let no = offer_refusal(posting, m);
+        if no != 0 {
+            return refused(self, no);
+        }
+        let own = self.sites[site];
+        let tally = self.tallies[m];
+        let step = own.on_offer(setup, tally);
+        let sends = step.sends;
+        let late = cut_refusal(setup.f, self.down, sends.to, cut);
+        if late != 0 {
+            return refused(self, late);
+        }
+        let mut d = self;
+        d.table = with_row(table, posting);
+        let after = d.carry_out(site, m, step, cut);
+        Outcome {
+            board: after,
+            answer: Answer::Offered(m),
+        }
+    }
+
+    // Receive, of a sound board.
+    pub fn receive_sound(self, form: usize, m: usize, from: usize, to: usize, cut: Cut) -> Outcome
+        requires { ⌜ isSound self ≡ true ⌝ }
+        ensures { λ r. ⌜ r ≡ receiving self form m from to cut ⌝ }
+    {
+        let setup = self.setup;
+        let why = message_refusal(setup.n, self.down, from, to);
+        if why != 0 {
+            return refused(self, why);
+        }
+        let mut d = self;
+        if flight::in_flight(&d.flight.masks, form, m, from, to) {
+            let good = flight::is_good(&d.flight.good, m, from, to);
+            let load = flight::carried_set(&d.flight.carried, m, from);
+            let own = d.sites[to];
+            let tally = d.tallies[m];
+            let table = d.table;
+            let step = receipt(
+                setup,
+                table,
+                own,
+                tally,
+                form,
+                m,
+                from as u8,
+                to as u8,
+                good,
+                load,
+            );
+            let sends = step.sends;
+            let late = cut_refusal(setup.f, self.down, sends.to, cut);
+            if late != 0 {
+                return refused(self, late);
+            }
+            flight::take_out(&mut d.flight.masks, form, m, from, to);
+            flight::clear_good(&mut d.flight.good, form, m, from, to);
+            flight::clear_carried(&mut d.flight.carried, form, m, from);
+            let after = d.carry_out(to, m, step, cut);
+            return done(after);
+        }
+        refused(self, 11)
+    }
+
+    // Order, of a sound board.
+    pub fn order_sound(self, m: usize) -> Outcome
+        requires { ⌜ isSound self ≡ true ⌝ }
+        ensures { λ r. ⌜ r ≡ ordering self m ⌝ }
+    {
+        let pool = self.pool;
+        if pool.has(m) {
+            let mut d = self;
+            let log = d.log;
+            d.pool = pool.without(m);
+            d.log = log.append(m);
+            return done(d);
+        }
+        refused(self, 12)
+    }
+
+    // Read, of a sound board.
+    pub fn read_sound(self, site: usize, cut: Cut) -> Outcome
+        requires { ⌜ isSound self ≡ true ⌝ }
+        ensures { λ r. ⌜ r ≡ reading self site cut ⌝ }
+    {
+        let setup = self.setup;
+        let why = site_refusal(setup.n, self.down, site);
+        if why != 0 {
+            return refused(self, why);
+        }
+        let mut d = self;
+        let own = d.sites[site];
+        let place = own.place;
+        let log = d.log;
+        if log.count <= place {
+            return refused(self, 13);
+        }
+        let late = cut_refusal(setup.f, self.down, 0, cut);
+        if late != 0 {
+            return refused(self, late);
+        }
+        let m = log.numbers[place] as usize;
+        let carried = d.entries[m];
+        let next = own.on_entry();
+        match cut {
+            Cut::Whole => {
+                d.sites[site] = next.deliver_entry(carried, m);
+                return done(d);
+            }
+            Cut::After(j) => {
+                d.sites[site] = next;
+                d.down = with_site(d.down, site as u8);
+                return done(d);
+            }
+        }
+    }
+
+    // Crash, of a sound board.
+    pub fn crash_sound(self, site: usize) -> Outcome
+        requires { ⌜ isSound self ≡ true ⌝ }
+        ensures { λ r. ⌜ r ≡ crashing self site ⌝ }
+    {
+        let setup = self.setup;
+        let why = site_refusal(setup.n, self.down, site);
+        if why != 0 {
+            return refused(self, why);
+        }
+        let crashes = setup.f as u32;
+        let lost = u8::count_ones(self.down);
+        if crashes <= lost {
+            return refused(self, 14);
+        }
+        let mut d = self;
+        d.down = with_site(d.down, site as u8);
+        done(d)
+    }
+}
+
+// A refusal hands the board back as it was.
+pub fn refused(b: Board, why: u8) -> Outcome
+    ensures { λ r. ⌜ r ≡ refusing b why ⌝ }
+{
+    Outcome {
+        board: b,
+        answer: Answer::Refused(why),
+    }
+}
+
+pub fn done(b: Board) -> Outcome
+    ensures { λ r. ⌜ r ≡ taken b ⌝ }
+{
+    Outcome {
+        board: b,
+        answer: Answer::Done,
+    }
+}

@@ -1,0 +1,52 @@
+-- Laws for a loop that runs a file's events: one event more, and what is shown of the board it ends on.
+-- Rests on Program, on machine for runs. Assumes nothing.
+use Prim.Native.Nat.{ℕ, _+_, _<_}
+use mathlib.Core.Path.{_≡_, refl, ap}
+use mathlib.Core.Bool.{Bool}
+use mathlib.Core.List.{List, [], _∷_, _++_}
+use native.Mathlib.Numerals.{add-one}
+use Rattle.posting.specs.Records.{numbersOf}
+use Rattle.books.specs.Books.{tabulate, noRecord}
+use Rattle.books.specs.Books as of-books
+use Rattle.books.proofs.Lists.{getD-tabulate}
+use Rattle.site.specs.Sites.{sites}
+use Rattle.machine.specs.declared.Board.{Board}
+use Rattle.machine.specs.declared.Call.{Call}
+use Rattle.machine.specs.Boards.{siteAt}
+use Rattle.machine.specs.Calls.{refusalOf}
+use Rattle.machine.specs.Runs.{taking, running, answers}
+use Rattle.machine.specs.Figures.{recordOf}
+use Rattle.runfile.specs.declared.Ended.{Ended}
+use Rattle.runfile.specs.RunFile.{callAt}
+use Rattle.runfile.specs.Program.{endedOn, refusals}
+
+-- the calls of the first k events
+abbrev pub callsTo : List ℕ → ℕ → List Call
+callsTo input k = tabulate k (callAt input)
+
+run-last : (b : Board) (l : List Call) (c : Call) → running b (l ++ (c ∷ [])) ≡ taking (running b l) c .board
+unfolding running
+run-last b [] c = refl
+run-last b (x ∷ l) c = run-last (taking b x .board) l c
+
+refusals-last : (b : Board) (l : List Call) (c : Call)
+    → refusals b (l ++ (c ∷ [])) ≡ refusals b l ++ (refusalOf (taking (running b l) c .answer) ∷ [])
+unfolding refusals running answers
+refusals-last b [] c = refl
+refusals-last b (x ∷ l) c = ap (λ (r : List ℕ). refusalOf (taking b x .answer) ∷ r) (refusals-last (taking b x .board) l c)
+
+-- event k is taken by the board that the first k left, and its refusal number stands behind theirs
+pub run-more : (b : Board) (input : List ℕ) (k : ℕ)
+    → running b (callsTo input (k + 1)) ≡ taking (running b (callsTo input k)) (callAt input k) .board
+unfolding tabulate
+run-more b input k = rw add-one (run-last b (callsTo input k) (callAt input k))
+
+pub refusals-more : (b : Board) (input : List ℕ) (k : ℕ)
+    → refusals b (callsTo input (k + 1)) ≡ refusals b (callsTo input k) ++ (refusalOf (taking (running b (callsTo input k)) (callAt input k) .answer) ∷ [])
+unfolding tabulate
+refusals-more b input k = rw add-one (refusals-last b (callsTo input k) (callAt input k))
+
+-- the record shown of a site is the site's
+pub shown-record : (b : Board) (quiet : Bool) (p : ℕ) → p < sites → numbersOf (of-books.recordOf (endedOn b quiet .records) p) ≡ recordOf b p
+unfolding endedOn
+shown-record b quiet p h = ap numbersOf (getD-tabulate sites (λ s. siteAt b s .delivered) noRecord p h)

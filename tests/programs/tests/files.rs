@@ -1,0 +1,123 @@
+// Holds: the files are enough, the same for the same seed, and meet every answer that the programs can print.
+// Rests on: programs, the model.
+
+use model::prng::Prng;
+use model::{decode, Call, MAX_EVENTS};
+use programs::carried::carried_run;
+use programs::files::{numbers, SORTS, STARTS};
+use std::collections::{BTreeMap, BTreeSet};
+use std::sync::OnceLock;
+use text::played;
+
+const SEED: u64 = 1;
+
+/// The files of a seed: of each sort one in so many.
+fn made(seed: u64, each: usize) -> Vec<Vec<u8>> {
+    let mut files = Vec::new();
+    for sort in &SORTS {
+        for k in (0..sort.count).step_by(each) {
+            files.push(sort.file(&mut numbers(seed, sort, k), k));
+        }
+    }
+    files
+}
+
+/// All files of one seed, made once.
+fn files() -> &'static [Vec<u8>] {
+    static FILES: OnceLock<Vec<Vec<u8>>> = OnceLock::new();
+    FILES.get_or_init(|| made(SEED, 1))
+}
+
+#[test]
+fn same_seed_same_files() {
+    assert_eq!(made(SEED, 20), made(SEED, 20));
+    assert_ne!(made(SEED, 20), made(SEED + 1, 20));
+}
+
+/// Few files come twice.
+#[test]
+fn enough_files() {
+    let different: BTreeSet<&Vec<u8>> = files().iter().collect();
+    assert!(files().len() >= 5_000 && different.len() >= 5_000);
+}
+
+/// What a line of `board` answers, without the numbers that count or list.
+fn answer(line: &str) -> String {
+    let words: Vec<&str> = line.split(' ').collect();
+    match words[..] {
+        ["E", _, "no", number] => format!("E no {number}"),
+        ["E", _, "ok"] => "E ok".to_string(),
+        ["S", _, state, ..] => format!("S {state}"),
+        ["L"] => "L empty".to_string(),
+        ["L", ..] => "L long".to_string(),
+        _ => line.to_string(),
+    }
+}
+
+/// Refusals 1 to 5 of whole files, and 7 to 15 of events; 6 and 16 are for boards and slices handed in.
+#[test]
+fn every_answer_comes_often() {
+    let mut met: BTreeMap<String, u64> = BTreeMap::new();
+    for file in files() {
+        for line in model::run(file).lines() {
+            *met.entry(answer(line)).or_default() += 1;
+        }
+    }
+    let whole = (1..=5).map(|k| format!("F {k}"));
+    let events = (7..=15).map(|k| format!("E no {k}"));
+    let others = [
+        "E ok", "S up", "S down", "L empty", "L long", "Q yes", "Q no",
+    ];
+    for answer in whole.chain(events).chain(others.map(String::from)) {
+        let times = met.get(&answer).copied().unwrap_or(0);
+        assert!(times >= 100, "{answer}: {times} times");
+    }
+}
+
+/// Which of the calls that can be cut an accepted cut was at: 1 offer, 2 receive, 4 read.
+fn cuts_at(file: &[u8], calls: &[Call]) -> BTreeSet<u8> {
+    let answers = model::run(file);
+    let accepted = calls.iter().zip(answers.lines());
+    accepted
+        .filter(|(_, line)| line.ends_with("ok"))
+        .filter_map(|(call, _)| match call {
+            Call::Offer { cut: Some(_), .. } => Some(1),
+            Call::Receive { cut: Some(_), .. } => Some(2),
+            Call::Read { cut: Some(_), .. } => Some(4),
+            _ => None,
+        })
+        .collect()
+}
+
+/// For every n and f: runs with as many sites down as may be, with each call cut, and as long as a run may be.
+#[test]
+fn every_start_has_its_faults() {
+    let mut met: BTreeMap<(u8, u8), (BTreeSet<u8>, u32, usize)> = BTreeMap::new();
+    for file in files() {
+        let Ok(run) = decode(file) else { continue };
+        let Ok(board) = played(&run) else { continue };
+        let (cuts, down, length) = met.entry((run.n, run.f)).or_default();
+        cuts.extend(cuts_at(file, &run.calls));
+        *down = board.down.count_ones().max(*down);
+        *length = run.calls.len().max(*length);
+    }
+    for start in STARTS {
+        let (cuts, down, length) = &met[&start];
+        assert_eq!(*down, u32::from(start.1));
+        assert!(*length >= MAX_EVENTS - 2);
+        assert_eq!(cuts.len(), if start.1 == 0 { 0 } else { 3 }, "{start:?}");
+    }
+}
+
+#[test]
+fn carried_runs_end_in_all_records() {
+    let mut rng = Prng::new(71);
+    for (n, postings) in [(3, 8), (3, 64), (5, 32), (5, 64), (7, 8), (7, 64)] {
+        let run = carried_run(&mut rng, (n, (n - 1) / 2, 0x5B6C), postings, 16);
+        let board = played(&run).unwrap();
+        assert_eq!(board.postings.len(), postings);
+        for site in &board.sites[..usize::from(n)] {
+            assert_eq!(site.record.len(), postings, "{n} sites");
+        }
+    }
+}

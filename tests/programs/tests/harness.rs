@@ -1,0 +1,79 @@
+// Holds: the comparison passes programs that answer as the model does, and finds out those that do not.
+// Rests on: programs.
+
+use programs::compare::{compare, compare_sort};
+use programs::files::{numbers, SORTS};
+use programs::programs::{Programs, MODEL, NONE};
+
+/// The first sorts, which have by far the most events, are left to the comparison itself.
+#[test]
+fn the_model_agrees_with_itself() {
+    for sort in &SORTS[2..] {
+        let done = compare_sort(&MODEL, 2, sort).unwrap();
+        assert_eq!(done.files, sort.count as u64);
+    }
+}
+
+/// Whether a comparison on some mixed runs finds a difference that has this in its words.
+fn found(programs: Programs, words: &str) {
+    let sort = &SORTS[0];
+    let cause = (0..60).find_map(|k| {
+        let mut rng = numbers(3, sort, k);
+        let file = sort.file(&mut rng, k);
+        compare(&programs, &file, &mut rng).err()
+    });
+    let cause = cause.expect("a difference is found");
+    assert!(cause.contains(words), "{cause}");
+}
+
+#[test]
+fn wrong_texts_are_found() {
+    let with = |run_file| Programs { run_file, ..MODEL };
+    let short = |input: &[u8], out: &mut [u8]| (MODEL.run_file)(input, out) - 1;
+    found(with(short), "run_file answers");
+    let wrong = |input: &[u8], out: &mut [u8]| {
+        let answer = (MODEL.run_file)(input, out);
+        out[answer as usize / 2] ^= 1;
+        answer
+    };
+    found(with(wrong), "run_file differs");
+    let past = |input: &[u8], out: &mut [u8]| {
+        let answer = (MODEL.run_file)(input, out);
+        if let Some(byte) = out.get_mut(answer as usize) {
+            *byte = 0;
+        }
+        answer
+    };
+    found(with(past), "past its text");
+    let cramped = |input: &[u8], out: &mut [u8]| match (MODEL.run_file)(input, out) {
+        NONE => out.len() as u64,
+        answer => answer,
+    };
+    found(with(cramped), "in ");
+}
+
+#[test]
+fn wrong_drains_are_found() {
+    let with = |run_drain| Programs { run_drain, ..MODEL };
+    let count = |input: &[u8], limit, out: &mut [i64]| {
+        (MODEL.run_drain)(input, limit, out).saturating_add(1)
+    };
+    found(with(count), "answers");
+    let figure = |input: &[u8], limit, out: &mut [i64]| {
+        let answer = (MODEL.run_drain)(input, limit, out);
+        out[64] += 1;
+        answer
+    };
+    found(with(figure), "at 64");
+    let early = |input: &[u8], limit: u64, out: &mut [i64]| {
+        let done = (MODEL.run_drain)(input, limit / 64, out);
+        done.max(limit.min(6784))
+    };
+    found(with(early), "answers");
+    let past = |input: &[u8], limit, out: &mut [i64]| {
+        let answer = (MODEL.run_drain)(input, limit, out);
+        *out.last_mut().unwrap() = 0;
+        answer
+    };
+    found(with(past), "at 450");
+}

@@ -1,0 +1,98 @@
+// Holds: the examples of the repository: their files follow from run.txt, and show what their pages say.
+// Rests on: text, the model, and the folder examples.
+
+use model::{decode, Board};
+use std::fs;
+use std::path::PathBuf;
+use text::{assemble, disassemble, played, statement};
+
+const NAMES: [&str; 4] = ["crash", "cut", "whole-case", "year"];
+
+fn folder() -> PathBuf {
+    PathBuf::from(env!("CARGO_MANIFEST_DIR")).join("../../examples")
+}
+
+fn file(name: &str, part: &str) -> Vec<u8> {
+    let path = folder().join(name).join(part);
+    fs::read(&path).unwrap_or_else(|error| panic!("{}: {error}", path.display()))
+}
+
+fn text_of(name: &str, part: &str) -> String {
+    String::from_utf8(file(name, part)).unwrap()
+}
+
+/// The board after an example's events, and how many of them were refused.
+fn board(name: &str) -> (Board, usize) {
+    let board = played(&decode(&file(name, "run.bin")).unwrap()).unwrap();
+    let refused = text_of(name, "board.out").matches(" no ").count();
+    (board, refused)
+}
+
+#[test]
+fn all_are_listed() {
+    let entries = fs::read_dir(folder()).unwrap().flatten();
+    let folders = entries.filter(|entry| entry.path().is_dir());
+    let mut names: Vec<_> = folders.map(|entry| entry.file_name()).collect();
+    names.sort();
+    assert_eq!(names, NAMES);
+}
+
+#[test]
+fn files_follow_from_the_text() {
+    for name in NAMES {
+        let run = file(name, "run.bin");
+        assert_eq!(assemble(&text_of(name, "run.txt")).as_ref(), Ok(&run));
+        assert_eq!(assemble(&disassemble(&run).unwrap()).as_ref(), Ok(&run));
+        assert_eq!(model::run(&run), text_of(name, "board.out"), "{name}");
+        assert_eq!(statement(&run), text_of(name, "statement.out"), "{name}");
+    }
+}
+
+#[test]
+fn whole_case_is_document_01s() {
+    let lines = "E 1 ok\nE 2 ok\nE 3 no 11\nS 0 up\nS 1 up\nS 2 up\nL\nQ no\n";
+    assert_eq!(text_of("whole-case", "board.out"), lines);
+}
+
+/// Records of the same postings in different orders; two that conflict stand as in the log.
+#[test]
+fn year() {
+    let (board, refused) = board("year");
+    assert_eq!(refused, 0);
+    let [a, b, _, ..] = board.sites.map(|site| site.record);
+    assert_ne!(a, b);
+    let sorted = |record: &[u8]| {
+        let mut list = record.to_vec();
+        list.sort();
+        list
+    };
+    assert_eq!(sorted(&a), (0..14).collect::<Vec<u8>>());
+    assert_eq!(sorted(&a), sorted(&b));
+    let [rate, call] = [7, 8].map(|m| board.postings[m]);
+    assert!(model::conflict(board.matrix, &rate, &call));
+    for list in [&a, &b, &board.log] {
+        let place = |m: u8| list.iter().position(|x| *x == m);
+        assert!(place(8) < place(7) && place(8).is_some());
+    }
+}
+
+/// What a drain brings to the records of the sites, with those that are down.
+fn drained(name: &str) -> (u8, Vec<Vec<u8>>) {
+    let (mut board, _) = board(name);
+    assert!(!board.is_quiet());
+    board.drain(text::statement::DRAIN).unwrap();
+    assert!(board.is_quiet());
+    let sites = &board.sites[..usize::from(board.n)];
+    let records = sites.iter().map(|site| site.record.clone());
+    (board.down, records.collect())
+}
+
+#[test]
+fn drains() {
+    assert_eq!(drained("whole-case"), (0, vec![vec![0]; 3]));
+    assert_eq!(drained("cut"), (0b001, vec![vec![], vec![0], vec![0]]));
+    let records = vec![vec![0, 2], vec![0, 2], vec![0]];
+    assert_eq!(drained("crash"), (0b100, records));
+    assert!(drained("year").1.iter().all(|record| record.len() == 14));
+    assert_eq!([board("cut").1, board("crash").1], [1, 2]);
+}
