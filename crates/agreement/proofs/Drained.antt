@@ -30,19 +30,12 @@ use Rattle.invariants.proofs.Reached.{Good, good-sites, call-good, run-good}
 use Rattle.invariants.proofs.Start.{fresh-good, start-taken}
 use Rattle.agreement.specs.Agreement.{ceilingOf, BooksAgree, BooksAgreeAfter}
 use Rattle.agreement.specs.Drains.{Item, call, drain, eventsOf, callsOf, boardAfter, runningAll, expanded, BooksAgreeAfterAll, DrainSays}
-use Rattle.agreement.proofs.Nexts.{not-none, next-accepted, next-acts, next-none, quiet-next}
+use Rattle.drain.proofs.Loop.{draining-none, draining-event}
+use Rattle.drain.proofs.NextEvent.{not-none, next-accepted, next-acts, next-none, quiet-next}
 use Rattle.agreement.proofs.Simulated.{run-more}
 use Rattle.agreement.proofs.Proved.{agree-fresh, run-append, offers-few}
 
 -- ---- one event more
-
-draining-none : (left limit count : ℕ) (b : Board) → nextEvent b ≡ none → draining (suc left) limit count b ≡ record { board = b; limit = limit; count = count; ending = Quiet }
-unfolding draining
-draining-none left limit count b e = ap (λ (r : Next). elim r [ none ↦ record { board = b; limit = limit; count = count; ending = Quiet } | event c ↦ draining left limit (count + 1) (taking b c .board) ]) e
-
-draining-event : (left limit count : ℕ) (b : Board) (c : Call) → nextEvent b ≡ event c → draining (suc left) limit count b ≡ draining left limit (count + 1) (taking b c .board)
-unfolding draining
-draining-event left limit count b c e = ap (λ (r : Next). elim r [ none ↦ record { board = b; limit = limit; count = count; ending = Quiet } | event c ↦ draining left limit (count + 1) (taking b c .board) ]) e
 
 events-none : (left : ℕ) (b : Board) → nextEvent b ≡ none → eventsOf (suc left) b ≡ []
 unfolding eventsOf

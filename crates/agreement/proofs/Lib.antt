@@ -19,5 +19,4 @@ pub mod Begins
 pub mod Simulated
 pub mod Exchanged
 pub mod Proved
-pub mod Nexts
 pub mod Drained

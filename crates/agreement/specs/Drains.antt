@@ -15,7 +15,7 @@ use Rattle.machine.specs.Runs.{taking, accepted, running, isAction, isQuiet}
 use Rattle.machine.specs.History.{acceptedCalls}
 use Rattle.drain.specs.declared.Ending.{Ending}
 use Rattle.drain.specs.declared.Ending.the-variants.{Quiet, Spent}
-use Rattle.drain.specs.Drain.{Next, none, event, nextEvent, drained}
+use Rattle.drain.specs.Drain.{isWhole, Next, none, event, nextEvent, drained}
 use Rattle.agreement.specs.Agreement.{BooksAgree}
 
 -- a call, or a drain with its limit
@@ -50,16 +50,6 @@ expanded b (i ∷ l) = callsOf b i ++ expanded (boardAfter b i) l
 abbrev pub BooksAgreeAfterAll : ℕ → ℕ → Board → List Item → Type 0
 BooksAgreeAfterAll n matrix start items =
     BooksAgree n matrix start (expanded start items) (acceptedCalls start (expanded start items)) (runningAll start items)
-
--- an event of a drain is a whole receive, order or read
-abbrev pub isWhole : Call → Bool
-isWhole (Offer site kind account other amount cut) = false
-isWhole (Receive form m from to Whole) = true
-isWhole (Receive form m from to (After j)) = false
-isWhole (Order m) = true
-isWhole (Read site Whole) = true
-isWhole (Read site (After j)) = false
-isWhole (Crash site) = false
 
 -- A drain on a board b that a list reached.
 pub record DrainSays (b : Board) (limit : ℕ) : Type 0 where

@@ -9,9 +9,9 @@ use Rattle.flight.specs.declared.Found.{Found}
 use Rattle.flight.specs.declared.Found.the-variants.{Nothing, Message}
 use Rattle.flight.specs.Flights.{lowest}
 use Rattle.machine.specs.declared.Board.{Board}
-use Rattle.machine.specs.declared.Cut.the-variants.{Whole}
+use Rattle.machine.specs.declared.Cut.the-variants.{Whole, After}
 use Rattle.machine.specs.declared.Call.{Call}
-use Rattle.machine.specs.declared.Call.the-variants.{Receive, Order, Read}
+use Rattle.machine.specs.declared.Call.the-variants.{Offer, Receive, Order, Read, Crash}
 use Rattle.machine.specs.Boards.{siteAt, isUp}
 use Rattle.machine.specs.Soundness.{isSound}
 use Rattle.machine.specs.Runs.{taking, isQuiet, upMask}
@@ -46,6 +46,16 @@ nextAfter b (Message form m from to) = event (Receive form m from to Whole)
 
 unfoldable pub nextEvent : Board → Next
 nextEvent b = nextAfter b (lowest (b .flight) (upMask b))
+
+-- an event of a drain is a whole receive, order or read
+abbrev pub isWhole : Call → Bool
+isWhole (Offer site kind account other amount cut) = false
+isWhole (Receive form m from to Whole) = true
+isWhole (Receive form m from to (After j)) = false
+isWhole (Order m) = true
+isWhole (Read site Whole) = true
+isWhole (Read site (After j)) = false
+isWhole (Crash site) = false
 
 -- the answer's number: 6 of a refused drain, 0 otherwise
 abbrev pub refusalOf : Ending → ℕ

@@ -7,6 +7,7 @@ pub mod SoundTest
 pub mod Causes
 pub mod Sent
 pub mod Placed
+pub mod Passed
 pub mod Facts
 pub mod Outcomes
 pub mod Received

@@ -6,3 +6,4 @@ pub mod History
 pub mod Figures
 pub mod ByMask
 pub mod SoundParts
+pub mod QuietParts

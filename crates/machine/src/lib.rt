@@ -12,6 +12,8 @@ use site::Tally;
 
 pub mod calls;
 pub mod figures;
+pub mod passing;
+pub mod quiet;
 pub mod refusals;
 pub mod service;
 pub mod sound;

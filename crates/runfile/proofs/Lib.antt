@@ -3,4 +3,5 @@
 pub mod Writing
 pub mod Texts
 pub mod Runs
+pub mod Programs
 pub mod Evaluated

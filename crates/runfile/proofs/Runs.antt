@@ -5,6 +5,8 @@ use mathlib.Core.Path.{_≡_, refl, ap}
 use mathlib.Core.Bool.{Bool}
 use mathlib.Core.List.{List, [], _∷_, _++_}
 use native.Mathlib.Numerals.{add-one}
+use lib.ListN.{length, set, take}
+use lib.Seq.{take-suc-set}
 use Rattle.posting.specs.Records.{numbersOf}
 use Rattle.books.specs.Books.{tabulate, noRecord}
 use Rattle.books.specs.Books as of-books
@@ -12,6 +14,7 @@ use Rattle.books.proofs.Lists.{getD-tabulate}
 use Rattle.site.specs.Sites.{sites}
 use Rattle.machine.specs.declared.Board.{Board}
 use Rattle.machine.specs.declared.Call.{Call}
+use Rattle.machine.specs.declared.Outcome.{Outcome}
 use Rattle.machine.specs.Boards.{siteAt}
 use Rattle.machine.specs.Calls.{refusalOf}
 use Rattle.machine.specs.Runs.{taking, running, answers}
@@ -45,6 +48,18 @@ pub refusals-more : (b : Board) (input : List ℕ) (k : ℕ)
     → refusals b (callsTo input (k + 1)) ≡ refusals b (callsTo input k) ++ (refusalOf (taking (running b (callsTo input k)) (callAt input k) .answer) ∷ [])
 unfolding tabulate
 refusals-more b input k = rw add-one (refusals-last b (callsTo input k) (callAt input k))
+
+-- the number stored at place k stands behind the first k
+pub stored-more : (l : List ℕ) (k x : ℕ) → k < length l → take (k + 1) (set l k x) ≡ take k l ++ (x ∷ [])
+stored-more l k x h = rw add-one (take-suc-set l k x h)
+
+-- One event more in a loop: its board and its numbers are those of the first k events, its outcome is what the call does.
+pub event-more : (start b : Board) (input numbers : List ℕ) (k x : ℕ) (o : Outcome) → k < length numbers
+    → b ≡ running start (callsTo input k) → take k numbers ≡ refusals start (callsTo input k)
+    → o ≡ taking b (callAt input k) → x ≡ refusalOf (o .answer)
+    → (o .board ≡ running start (callsTo input (k + 1))) × (take (k + 1) (set numbers k x) ≡ refusals start (callsTo input (k + 1)))
+event-more start b input numbers k x o h eb en eo ex =
+    rw (run-more start input k, refusals-more start input k, stored-more numbers k x h, en, ex, eo, eb) (refl, refl)
 
 -- the record shown of a site is the site's
 pub shown-record : (b : Board) (quiet : Bool) (p : ℕ) → p < sites → numbersOf (of-books.recordOf (endedOn b quiet .records) p) ≡ recordOf b p

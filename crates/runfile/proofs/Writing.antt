@@ -3,14 +3,16 @@
 use Prim.Native.Nat.{ℕ, suc, min, _+_, _<_, _≤_}
 use mathlib.Core.Path.{_≡_, refl, sym, ap, _∙_}
 use mathlib.Core.Logic.{inl, inr}
+use mathlib.Core.Bool.{cond}
 use mathlib.Core.List.{List, [], _∷_, _++_}
 use native.Mathlib.Numerals.{add-one}
 use native.Mathlib.Omega.{arith}
-use lib.Dec.{ltb}
-use lib.ListN.{length, drop, set, length-set}
+use lib.Dec.{ltb, leb}
+use lib.ListN.{length, drop, set, length-set, length-append}
 use lib.Seq.{sets, sets-eq}
 use borrow.Author.Tests.{lt-ltb, ltb-true, ltb-false, le-leb, lt-leb}
 use Rattle.sets.specs.Truth.{test}
+use Rattle.runfile.specs.declared.Printed.{Printed}
 use Rattle.runfile.specs.declared.Printed.the-variants.{Written, Short}
 use Rattle.runfile.specs.Writing.{lastPlace, next, after, putting, Put, slicePrinted, answerPrinted}
 
@@ -100,3 +102,21 @@ module _ (text s t : List ℕ) (needed : ℕ) (counted : Put text 0 [] t needed)
             ∙ sets-eq text s 0 (omega arith)
             ∙ ap (λ (k : ℕ). text ++ drop k s) n,
       )
+
+-- ---- what was written is part of the slice
+
+abbrev countIn : Printed → ℕ
+countIn (Written count) = count
+countIn Short = 0
+
+pub written-within : (text s t : List ℕ) (count : ℕ) (x : Printed) → x ≡ Written count → x ≡ answerPrinted text s → t ≡ slicePrinted text s → count ≤ length t
+unfolding answerPrinted slicePrinted
+written-within text s t count x w a e =
+    let same : count ≡ countIn (cond (leb (length text) (length s)) (Written (length text)) Short) = ap countIn (sym w ∙ a) in
+    elim (test (leb (length text) (length s))) [
+      | inl l ↦
+          let n : count ≡ length text = rw l at same in
+          let long : length t ≡ length (text ++ drop (length text) s) = ap length (rw l at e) in
+          omega (arith, n, long, length-append text (drop (length text) s))
+      | inr l ↦ let n : count ≡ 0 = rw l at same in omega (arith, n)
+    ]

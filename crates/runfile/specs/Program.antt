@@ -1,7 +1,8 @@
 -- What `board` prints for an input: the lines of the run that the file stands for, or the one line of a refusal.
 -- Rests on RunFile and Output, and on machine for the run (document 01, "Program `board`").
 use Prim.Native.Nat.{ℕ}
-use mathlib.Core.Bool.{Bool, cond}
+use mathlib.Core.Path.{_≡_}
+use mathlib.Core.Bool.{Bool, true, cond}
 use mathlib.Core.List.{List, map}
 use lib.Dec.{eqb}
 use Rattle.books.specs.Books.{tabulate}
@@ -11,6 +12,7 @@ use Rattle.machine.specs.declared.Board.{Board}
 use Rattle.machine.specs.declared.Call.{Call}
 use Rattle.machine.specs.declared.Outcome.{Outcome}
 use Rattle.machine.specs.Boards.{siteAt}
+use Rattle.machine.specs.Soundness.{isSound}
 use Rattle.machine.specs.Calls.{refusalOf, starting}
 use Rattle.machine.specs.Runs.{running, answers, isQuiet}
 use Rattle.runfile.specs.declared.Ended.{Ended}
@@ -27,6 +29,10 @@ endedOn b quiet =
       log = b .log;
       quiet = quiet;
     }
+
+-- every board that calls reach from it is sound; of an accepted start that is a theorem
+abbrev pub StaysSound : Board → Type 0
+StaysSound b = (calls : List Call) → isSound (running b calls) ≡ true
 
 -- the refusal numbers of a run's answers, in order; 0 of what is accepted
 unfoldable pub refusals : Board → List Call → List ℕ

@@ -10,6 +10,7 @@ use sets::POSTINGS;
 
 pub mod file;
 pub mod print;
+pub mod run;
 
 // What is shown of the board that a run ends on.
 pub struct Ended {

@@ -26,12 +26,11 @@ use Rattle.machine.specs.declared.Call.{Call}
 use Rattle.machine.specs.declared.Call.the-variants.{Offer, Receive, Order, Read, Crash}
 use Rattle.machine.specs.Boards.{siteAt, isDown, isUp}
 use Rattle.machine.specs.Runs.{taking, accepted, isAction, NothingLeft, isQuiet, upMask}
-use Rattle.drain.specs.Drain.{Next, none, event, nextRead, nextOrder, nextAfter, nextEvent}
+use Rattle.drain.specs.Drain.{isWhole, Next, none, event, nextRead, nextOrder, nextAfter, nextEvent}
 use Rattle.invariants.proofs.Judged.{receipt-taken, order-taken, read-taken}
 use Rattle.invariants.proofs.FlightSound.{bit-below}
 use Rattle.invariants.proofs.Quiet.{up-bit, receive-accepted, order-accepted, read-accepted, quiet-left, left-quiet}
 use Rattle.invariants.proofs.Reached.{GoodIf, good-flight}
-use Rattle.agreement.specs.Drains.{isWhole}
 
 event-same : {c d : Call} → event c ≡ event d → c ≡ d
 event-same e = cc

@@ -1,0 +1,6 @@
+-- What the proofs of drain share.
+-- Rests on the specs and on invariants.
+pub mod Searches
+pub mod Nexts
+pub mod NextEvent
+pub mod Loop

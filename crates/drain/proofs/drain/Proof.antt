@@ -1,0 +1,28 @@
+-- `drain` meets its contract.
+-- Assumes nothing.
+use mathlib.Core.Path.{sym, _∙_}
+use Rattle.drain.specs.Drain.{drained}
+use borrow.Author.Needs.{needs}
+use Rattle.drain.proofs.drain.Statement.{statement}
+use Rattle.drain.proofs.drain.Tie as tie
+
+is-sound-requires : tie.Need-is-sound-requires
+is-sound-requires c κs = search needs
+
+drain-sound-requires : tie.Need-drain-sound-requires
+drain-sound-requires c κs =
+    sym (c .before .is-sound .ensures) ∙ c .if1 .taken
+
+returns : tie.Need-returns
+unfolding drained
+returns c =
+    let at = c .before .before in
+    rw (sym (at .is-sound .ensures) ∙ c .before .if1 .taken) (c .drain-sound .ensures)
+
+returns-2 : tie.Need-returns-2
+unfolding drained
+returns-2 c =
+    rw (sym (c .before .is-sound .ensures) ∙ c .if1 .left)
+
+pub drain-spec : {M : Type 1} → statement M
+drain-spec = tie.close (tie.spec is-sound-requires drain-sound-requires returns returns-2)

@@ -1,0 +1,46 @@
+// The searches that come after the flight's: the lowest posting of a pool, and the lowest site that has log left to read.
+// Rests on site and sets.
+ghost use mathlib.Core.Path.{_≡_};
+ghost use Rattle.sets.specs.Sets.{has, capacity};
+ghost use Rattle.drain.specs.Firsts.{firstBelow, reads};
+use sets::POSTINGS;
+use sets::Set;
+use site::SITES;
+use site::Site;
+use site::masks::has_site;
+
+// The lowest posting of the set; the capacity if it is empty.
+pub fn lowest_member(s: Set) -> usize
+    ensures { λ r. ⌜ r ≡ firstBelow (has s) capacity ⌝ }
+{
+    for m in 0..POSTINGS {
+        if s.has(m) {
+            return m;
+        }
+    }
+    POSTINGS
+}
+
+// The lowest of n sites that is not down and whose place is below the log's count; n if there is none.
+// Past the array there is no site, and its place counts as 0.
+pub fn next_reader(sites: [Site; SITES], n: u8, down: u8, logged: usize) -> usize
+    ensures { λ r. ⌜ r ≡ firstBelow (reads sites down logged) n ⌝ }
+{
+    for p in 0..n {
+        if has_site(down, p) {
+            continue;
+        }
+        let i = p as usize;
+        if SITES <= i {
+            if 0 < logged {
+                return i;
+            }
+            continue;
+        }
+        let s = sites[i];
+        if s.place < logged {
+            return i;
+        }
+    }
+    n as usize
+}
