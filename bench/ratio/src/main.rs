@@ -24,10 +24,12 @@ fn main() {
     table(&cases, |side, case| {
         (case.events, side.on_file(&case.carried))
     });
-    println!("Drains: offers decoded and done, the board drained to quiet, books written.\n");
-    table(&cases, |side, case| {
-        (case.drained, side.on_drain(&case.offered))
-    });
+    if SIDES.iter().all(|side| side.programs.run_drain.is_some()) {
+        println!("Drains: offers decoded and done, the board drained to quiet, books written.\n");
+        table(&cases, |side, case| {
+            (case.drained, side.on_drain(&case.offered))
+        });
+    }
     memory::table(cases.last().expect("there are cases"));
 }
 

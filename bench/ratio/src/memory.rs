@@ -51,7 +51,9 @@ pub fn table(case: &Case) {
     let mut calls = vec![("nothing".to_string(), &case.carried)];
     for side in &SIDES {
         calls.push((format!("{}, run file", side.name), &case.carried));
-        calls.push((format!("{}, drain", side.name), &case.offered));
+        if side.programs.run_drain.is_some() {
+            calls.push((format!("{}, drain", side.name), &case.offered));
+        }
     }
     for (name, input) in calls {
         let done = measure(&name, input);

@@ -1,1 +1,3 @@
+-- Answers: what an exported function answers.
+-- Rests on runfile.
 pub mod Answers

@@ -3,5 +3,6 @@
 pub mod Writing
 pub mod Texts
 pub mod Runs
+pub mod InPlace
 pub mod Programs
 pub mod Evaluated

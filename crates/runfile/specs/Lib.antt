@@ -5,3 +5,4 @@ pub mod Output
 pub mod Writing
 pub mod Program
 pub mod Examples
+pub mod InPlace

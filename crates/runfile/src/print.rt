@@ -22,7 +22,7 @@ const LAST: usize = 18_446_744_073_709_551_615;
 const NEWLINE: u8 = 10;
 
 // One byte.
-fn put(byte: u8, at: usize, out: &mut [u8]) -> usize
+pub fn put(byte: u8, at: usize, out: &mut [u8]) -> usize
     ensures { λ r. ⌜ Put (byte ∷ []) at (now (out .entry)) (now (out .exit)) r ⌝ }
 {
     if at < out.len() {
@@ -36,7 +36,7 @@ fn put(byte: u8, at: usize, out: &mut [u8]) -> usize
 }
 
 // Some bytes.
-fn put_text(text: &[u8], at: usize, out: &mut [u8]) -> usize
+pub fn put_text(text: &[u8], at: usize, out: &mut [u8]) -> usize
     ensures { λ r. ⌜ Put (now (text .entry)) at (now (out .entry)) (now (out .exit)) r ⌝ }
 {
     let mut place = at;
@@ -46,7 +46,7 @@ fn put_text(text: &[u8], at: usize, out: &mut [u8]) -> usize
     place
 }
 
-fn wide(x: u8) -> usize
+pub fn wide(x: u8) -> usize
     ensures { λ r. ⌜ r ≡ x ⌝ }
 {
     x as usize
@@ -59,7 +59,7 @@ fn last_digit(x: usize) -> u8
 }
 
 // A number in base ten.
-fn put_number(x: usize, at: usize, out: &mut [u8]) -> usize
+pub fn put_number(x: usize, at: usize, out: &mut [u8]) -> usize
     ensures { λ r. ⌜ Put (decimal x) at (now (out .entry)) (now (out .exit)) r ⌝ }
 {
     let digit = last_digit(x);
@@ -128,7 +128,7 @@ fn put_items(delivered: Record, at: usize, out: &mut [u8]) -> usize
 }
 
 // Up or down.
-fn put_state(down: bool, at: usize, out: &mut [u8]) -> usize
+pub fn put_state(down: bool, at: usize, out: &mut [u8]) -> usize
     ensures { λ r. ⌜ Put (cond down downWord upWord) at (now (out .entry)) (now (out .exit)) r ⌝ }
 {
     if down {
