@@ -1,10 +1,20 @@
 // What other languages call: the programs, over an input and an output slice.
-// Rests on runfile. Each function takes any bytes: a slice without room for the output stays as it was, and the answer says so.
+// Rests on runfile, drain and machine. Each function takes any bytes: a slice without room for the output stays as it was, and the answer says so.
+ghost use Prim.Native.Nat.{_≤_};
 ghost use mathlib.Core.Path.{_≡_};
+ghost use Rattle.runfile.specs.RunFile.{eventLimit, eventCount, callsOf};
 ghost use Rattle.runfile.specs.Writing.{slicePrinted, answerPrinted};
-ghost use Rattle.runfile.specs.Program.{printed};
+ghost use Rattle.runfile.specs.Program.{StaysSound, printed};
 ghost use Rattle.exports.specs.Answers.{countOf};
+ghost use Rattle.exports.specs.Drains.{drainedRun, drainedFile};
+use drain::drain_sound;
+use machine::Board;
 use runfile::Printed;
+use runfile::file::EVENTS;
+use runfile::file::setup_of;
+use runfile::file::well_formed;
+use runfile::run::refusal_of;
+use runfile::run::run_events;
 
 // The answer in place of a count of bytes: no slice has so many.
 pub const NO_COUNT: u64 = 18_446_744_073_709_551_615;
@@ -24,4 +34,44 @@ pub extern "C" fn run_file(input: &[u8], out: &mut [u8]) -> u64
             return NO_COUNT;
         }
     }
+}
+
+// The events of a file from a board, a drain with the limit, and the books of all sites.
+fn drain_from(board: Board, input: &[u8], limit: u64, out: &mut [i64]) -> u64
+    requires { ⌜ StaysSound board × (eventCount (now input) ≤ eventLimit) ⌝ }
+    ensures { λ r. ⌜ r ≡ drainedRun board (callsOf (now (input .entry))) limit (now (out .entry)) .count ⌝ }
+    ensures { λ _. ⌜ now (out .exit) ≡ drainedRun board (callsOf (now (input .entry))) limit (now (out .entry)) .slice ⌝ }
+{
+    let mut numbers = [0; EVENTS];
+    let last = run_events(board, input, &mut numbers);
+    let drained = drain_sound(last, limit);
+    let count = drained.count;
+    let after = drained.board;
+    let answer = after.books_all_sound(out);
+    let refusal = refusal_of(answer);
+    if refusal != 0 {
+        return NO_COUNT;
+    }
+    count
+}
+
+// A run file run, the board drained with the limit, and the books of all sites in the slice: the answer is the drain's count. NO_COUNT,
+// and the slice as it was, if the file or its start is refused or the slice is shorter than 64 numbers a site.
+#[no_mangle]
+pub extern "C" fn run_drain(input: &[u8], limit: u64, out: &mut [i64]) -> u64
+    ensures { λ r. ⌜ r ≡ drainedFile (now (input .entry)) limit (now (out .entry)) .count ⌝ }
+    ensures { λ _. ⌜ now (out .exit) ≡ drainedFile (now (input .entry)) limit (now (out .entry)) .slice ⌝ }
+{
+    if well_formed(input) {
+        let setup = setup_of(input);
+        let start = Board::start(setup.n, setup.f, setup.matrix);
+        let answer = start.answer;
+        let refusal = refusal_of(answer);
+        if refusal != 0 {
+            return NO_COUNT;
+        }
+        let board = start.board;
+        return drain_from(board, input, limit, out);
+    }
+    NO_COUNT
 }

@@ -42,7 +42,7 @@ sound-itself : (b : Board) → StaysSound b → isSound b ≡ true
 unfolding running
 sound-itself b h = h []
 
-drain-stays : (left limit count : ℕ) (b : Board) → StaysSound b → isSound (draining left limit count b .board) ≡ true
+pub drain-stays : (left limit count : ℕ) (b : Board) → StaysSound b → isSound (draining left limit count b .board) ≡ true
 unfolding draining
 drain-stays zero limit count b h = sound-itself b h
 drain-stays (suc left) limit count b h = elim (next-cases (nextEvent b)) [
@@ -50,7 +50,7 @@ drain-stays (suc left) limit count b h = elim (next-cases (nextEvent b)) [
   | inr e ↦ rw (draining-event left limit count b (e .0) (e .1)) (drain-stays left limit (count + 1) (taking b (e .0) .board) (stays-after b (e .0) h))
 ]
 
-run-stays : (b : Board) (calls : List Call) → StaysSound b → StaysSound (running b calls)
+pub run-stays : (b : Board) (calls : List Call) → StaysSound b → StaysSound (running b calls)
 unfolding running
 run-stays b [] h = h
 run-stays b (c ∷ calls) h = run-stays (taking b c .board) calls (stays-after b c h)

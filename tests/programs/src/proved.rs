@@ -5,19 +5,31 @@ use crate::programs::Programs;
 
 pub const PROVED: Programs = Programs {
     run_file,
-    run_drain: None,
+    run_drain: Some(run_drain),
 };
 
 mod library {
     extern "C" {
         pub fn run_file(input: *const u8, length: usize, out: *mut u8, room: usize) -> u64;
+        pub fn run_drain(
+            input: *const u8,
+            length: usize,
+            limit: u64,
+            out: *mut i64,
+            room: usize,
+        ) -> u64;
     }
 }
 
-// The function takes any bytes, and of a slice its pointer and its length, which it neither keeps nor passes: so
-// the call below is sound.
+// Both functions take any bytes and numbers, and of a slice its pointer and its length, which they neither keep
+// nor pass: so each call below is sound.
 
 fn run_file(input: &[u8], out: &mut [u8]) -> u64 {
     let (start, room) = (out.as_mut_ptr(), out.len());
     unsafe { library::run_file(input.as_ptr(), input.len(), start, room) }
+}
+
+fn run_drain(input: &[u8], limit: u64, out: &mut [i64]) -> u64 {
+    let (start, room) = (out.as_mut_ptr(), out.len());
+    unsafe { library::run_drain(input.as_ptr(), input.len(), limit, start, room) }
 }
