@@ -1,64 +1,10 @@
-// Holds: where the static library of the proved crate is found, and how it is made when it is missing or old.
-// Rests on: the repository's crates.txt, and `rt` on the path.
+// Holds: which proved crate this package links, unless model-only.
+// Rests on: ../library.rs.
 
-use std::path::{Path, PathBuf};
-use std::process::Command;
-use std::time::SystemTime;
-use std::{env, fs};
-
-const CRATE: &str = "exports";
-
-/// The crate and its dependencies, all of which its line in crates.txt names.
-fn crates(root: &Path) -> Vec<PathBuf> {
-    let text = fs::read_to_string(root.join("crates.txt")).expect("crates.txt is at the root");
-    let line = text
-        .lines()
-        .find_map(|line| line.split_once(':').filter(|(name, _)| *name == CRATE))
-        .expect("crates.txt has a line for the crate");
-    let names = std::iter::once(CRATE).chain(line.1.split_whitespace());
-    names.map(|name| root.join("crates").join(name)).collect()
-}
-
-/// When a file, or the latest one below a folder, was changed.
-fn changed(path: &Path) -> SystemTime {
-    let own = fs::metadata(path).and_then(|data| data.modified());
-    let below = fs::read_dir(path).into_iter().flatten().flatten();
-    below
-        .map(|entry| changed(&entry.path()))
-        .chain(own)
-        .max()
-        .unwrap_or(SystemTime::UNIX_EPOCH)
-}
-
-fn make(root: &Path) {
-    let made = Command::new("rt")
-        .args(["staticlib", CRATE])
-        .current_dir(root)
-        .output()
-        .expect("rt is on the path");
-    assert!(
-        made.status.success(),
-        "rt staticlib {CRATE}:\n{}{}",
-        String::from_utf8_lossy(&made.stdout),
-        String::from_utf8_lossy(&made.stderr)
-    );
-}
+include!("../library.rs");
 
 fn main() {
-    if env::var_os("CARGO_FEATURE_MODEL_ONLY").is_some() {
-        return;
+    if env::var_os("CARGO_FEATURE_MODEL_ONLY").is_none() {
+        link("exports");
     }
-    let here = PathBuf::from(env::var_os("CARGO_MANIFEST_DIR").expect("cargo sets it"));
-    let root = here.join("../..");
-    let folder = root.join("target/staticlib");
-    let archive = folder.join(format!("lib{CRATE}.a"));
-    let sources = crates(&root);
-    if !archive.exists() || sources.iter().any(|path| changed(path) > changed(&archive)) {
-        make(&root);
-    }
-    for path in sources.iter().chain([&archive]) {
-        println!("cargo:rerun-if-changed={}", path.display());
-    }
-    println!("cargo:rustc-link-search=native={}", folder.display());
-    println!("cargo:rustc-link-lib=static={CRATE}");
 }

@@ -30,7 +30,7 @@ pub struct Case {
 /// A side of the comparison.
 pub struct Side {
     pub name: &'static str,
-    pub programs: Programs,
+    programs: Programs,
     /// The model prints a text of its own, which is not copied into a slice.
     prints: bool,
 }
@@ -71,7 +71,7 @@ impl Side {
 
     /// A call that plays a run file, drains the board to quiet, and fills in the books of all sites.
     pub fn on_drain<'a>(&self, input: &'a [u8]) -> Box<dyn FnMut() + 'a> {
-        let run_drain = self.programs.run_drain.expect("a side that drains");
+        let run_drain = self.programs.run_drain;
         let mut out = vec![0; FIGURES * SITES];
         Box::new(move || {
             black_box(run_drain(black_box(input), DRAIN, &mut out));
@@ -93,7 +93,7 @@ fn case(rng: &mut Prng, n: u8, postings: usize) -> Case {
     let start = (n, (n - 1) / 2, FIXED_PAIRS);
     let carried = carried_file(rng, start, postings, 16);
     let offered = offered_file(rng, start, postings, 16);
-    let count = programs::programs::run_drain(&offered, DRAIN, &mut [0; FIGURES * SITES]);
+    let count = (MODEL.run_drain)(&offered, DRAIN, &mut [0; FIGURES * SITES]);
     Case {
         n,
         postings,

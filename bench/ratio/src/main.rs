@@ -24,12 +24,10 @@ fn main() {
     table(&cases, |side, case| {
         (case.events, side.on_file(&case.carried))
     });
-    if SIDES.iter().all(|side| side.programs.run_drain.is_some()) {
-        println!("Drains: offers decoded and done, the board drained to quiet, books written.\n");
-        table(&cases, |side, case| {
-            (case.drained, side.on_drain(&case.offered))
-        });
-    }
+    println!("Drains: offers decoded and done, the board drained to quiet, books written.\n");
+    table(&cases, |side, case| {
+        (case.drained, side.on_drain(&case.offered))
+    });
     memory::table(cases.last().expect("there are cases"));
 }
 

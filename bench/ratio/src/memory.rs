@@ -51,9 +51,7 @@ pub fn table(case: &Case) {
     let mut calls = vec![("nothing".to_string(), &case.carried)];
     for side in &SIDES {
         calls.push((format!("{}, run file", side.name), &case.carried));
-        if side.programs.run_drain.is_some() {
-            calls.push((format!("{}, drain", side.name), &case.offered));
-        }
+        calls.push((format!("{}, drain", side.name), &case.offered));
     }
     for (name, input) in calls {
         let done = measure(&name, input);

@@ -2,7 +2,7 @@
 // Rests on: programs, files; the model's generator of numbers.
 
 use crate::files::{numbers, Sort};
-use crate::programs::{run_drain, Drain, Programs, NONE};
+use crate::programs::{Programs, MODEL, NONE};
 use model::prng::Prng;
 use model::{FIGURES, SITES};
 use text::statement::DRAIN;
@@ -28,25 +28,22 @@ pub fn compare(programs: &Programs, input: &[u8], rng: &mut Prng) -> Result<Comp
     let spare = rng.pick(&[0, 0, 1, 40]);
     same_text(programs, input, &text, spare)?;
     no_room(programs, input, rng.below(text.len() as u64) as usize)?;
+    let drained = same_drain(programs, input, DRAIN, ROOM)?;
     let mut done = Compared {
         files: 1,
-        events: text.lines().filter(|line| line.starts_with('E')).count() as u64,
         ..Compared::default()
     };
-    let Some(drain) = programs.run_drain else {
-        return Ok(done);
-    };
-    let drained = same_drain(drain, input, DRAIN, ROOM)?;
     if drained == NONE {
         return Ok(done);
     }
     let part = rng.below(drained + 1);
     let limit = rng.pick(&[0, 1, part, part, drained, u64::MAX]);
-    same_drain(drain, input, limit, ROOM)?;
+    same_drain(programs, input, limit, ROOM)?;
     let whole = FIGURES * usize::from(input[5]);
     let short = rng.below(whole as u64) as usize;
     let room = rng.pick(&[whole, whole - 1, short]);
-    same_drain(drain, input, limit.min(1), room)?;
+    same_drain(programs, input, limit.min(1), room)?;
+    done.events = text.lines().filter(|line| line.starts_with('E')).count() as u64;
     done.drained = drained;
     Ok(done)
 }
@@ -79,11 +76,11 @@ fn no_room(programs: &Programs, input: &[u8], room: usize) -> Result<(), String>
 }
 
 /// The count, which is returned, and the whole slice, in which the books are and the rest stays.
-fn same_drain(drain: Drain, input: &[u8], limit: u64, room: usize) -> Result<u64, String> {
+fn same_drain(programs: &Programs, input: &[u8], limit: u64, room: usize) -> Result<u64, String> {
     let mut wanted = vec![NUMBER; room];
-    let count = run_drain(input, limit, &mut wanted);
+    let count = (MODEL.run_drain)(input, limit, &mut wanted);
     let mut out = vec![NUMBER; room];
-    let answer = drain(input, limit, &mut out);
+    let answer = (programs.run_drain)(input, limit, &mut out);
     let at_limit = format!("run_drain with limit {limit} and room {room}");
     if answer != count {
         return Err(format!("{at_limit} answers {answer}, the model {count}"));

@@ -7,8 +7,6 @@ use text::played;
 /// The answer where nothing is written.
 pub const NONE: u64 = u64::MAX;
 
-pub type Drain = fn(input: &[u8], limit: u64, out: &mut [i64]) -> u64;
-
 /// Two functions under comparison. Of a slice that is lent, what is not written stays.
 #[derive(Clone, Copy)]
 pub struct Programs {
@@ -17,13 +15,12 @@ pub struct Programs {
     pub run_file: fn(input: &[u8], out: &mut [u8]) -> u64,
     /// Plays the events of a run file, drains with the limit, and fills in the books of all sites. The answer is
     /// the drain's count, or NONE if the file is refused or the slice is shorter than 64 numbers a site.
-    /// None where the library has no such function yet: then drains are not compared.
-    pub run_drain: Option<Drain>,
+    pub run_drain: fn(input: &[u8], limit: u64, out: &mut [i64]) -> u64,
 }
 
 pub const MODEL: Programs = Programs {
     run_file,
-    run_drain: Some(run_drain),
+    run_drain,
 };
 
 fn run_file(input: &[u8], out: &mut [u8]) -> u64 {
@@ -35,7 +32,7 @@ fn run_file(input: &[u8], out: &mut [u8]) -> u64 {
     text.len() as u64
 }
 
-pub fn run_drain(input: &[u8], limit: u64, out: &mut [i64]) -> u64 {
+fn run_drain(input: &[u8], limit: u64, out: &mut [i64]) -> u64 {
     let Ok(mut board) = decode(input).and_then(|run| played(&run)) else {
         return NONE;
     };

@@ -5,7 +5,7 @@ use crate::programs::Programs;
 
 pub const PROVED: Programs = Programs {
     run_file,
-    run_drain: Some(run_drain),
+    run_drain,
 };
 
 mod library {

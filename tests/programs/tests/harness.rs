@@ -3,7 +3,7 @@
 
 use programs::compare::{compare, compare_sort};
 use programs::files::{numbers, SORTS};
-use programs::programs::{run_drain, Drain, Programs, MODEL, NONE};
+use programs::programs::{Programs, MODEL, NONE};
 
 /// The first sorts, which have by far the most events, are left to the comparison itself.
 #[test]
@@ -54,26 +54,24 @@ fn wrong_texts_are_found() {
 
 #[test]
 fn wrong_drains_are_found() {
-    let with = |run_drain: Drain| Programs {
-        run_drain: Some(run_drain),
-        ..MODEL
+    let with = |run_drain| Programs { run_drain, ..MODEL };
+    let count = |input: &[u8], limit, out: &mut [i64]| {
+        (MODEL.run_drain)(input, limit, out).saturating_add(1)
     };
-    let count =
-        |input: &[u8], limit, out: &mut [i64]| run_drain(input, limit, out).saturating_add(1);
     found(with(count), "answers");
     let figure = |input: &[u8], limit, out: &mut [i64]| {
-        let answer = run_drain(input, limit, out);
+        let answer = (MODEL.run_drain)(input, limit, out);
         out[64] += 1;
         answer
     };
     found(with(figure), "at 64");
     let early = |input: &[u8], limit: u64, out: &mut [i64]| {
-        let done = run_drain(input, limit / 64, out);
+        let done = (MODEL.run_drain)(input, limit / 64, out);
         done.max(limit.min(6784))
     };
     found(with(early), "answers");
     let past = |input: &[u8], limit, out: &mut [i64]| {
-        let answer = run_drain(input, limit, out);
+        let answer = (MODEL.run_drain)(input, limit, out);
         *out.last_mut().unwrap() = 0;
         answer
     };
