@@ -7,12 +7,12 @@ use mathlib.Core.Bool.{Bool, true, false}
 use mathlib.Core.List.{List, [], _∷_, _++_}
 use Rattle.sets.specs.Truth.{test}
 use Rattle.posting.specs.declared.Table.{Table}
-use Rattle.posting.specs.Conflicts.{offered, row}
+use Rattle.posting.specs.Conflicts.{offered, row, tableWith}
 use Rattle.machine.specs.declared.Board.{Board}
-use Rattle.machine.specs.declared.Cut.{Cut}
+use Rattle.steps.specs.declared.Cut.{Cut}
 use Rattle.machine.specs.declared.Call.{Call}
 use Rattle.machine.specs.declared.Call.the-variants.{Offer, Receive, Order, Read, Crash}
-use Rattle.machine.specs.Boards.{tableWith, boardTable, boardFlight}
+use Rattle.machine.specs.Boards.{boardTable, boardFlight}
 use Rattle.flight.specs.Flights.{takingOut}
 use Rattle.machine.specs.Calls.{carriedOut, receiptOf}
 use Rattle.machine.specs.Runs.{taking, accepted, running}

@@ -14,7 +14,7 @@ use Rattle.sets.specs.Masks.{hasBit}
 use Rattle.sets.specs.MaskLaws.{has-bit-zero}
 use Rattle.sets.specs.WordLaws.{member-empty}
 use Rattle.sets.specs.Sets.{words, capacity, has, emptySet, ofWords}
-use Rattle.posting.specs.Conflicts.{offered}
+use Rattle.posting.specs.Conflicts.{offered, emptyTable}
 use Rattle.posting.specs.ConflictLaws.{offered-below}
 use Rattle.posting.specs.Records.{numbersOf, emptyRecord}
 use Rattle.posting.specs.RecordLaws.{numbers-empty}
@@ -24,7 +24,7 @@ use Rattle.site.specs.Sites.{sites, blankSite, blankTally, noSet, noSite, noTal
 use Rattle.flight.specs.ArrayLaws.{zero-at}
 use Rattle.flight.specs.FlightLaws.{empty-in-flight, empty-good, empty-carried}
 use Rattle.machine.specs.declared.Board.{Board}
-use Rattle.machine.specs.Boards.{freshBoard, emptyTable, siteAt, tallyAt}
+use Rattle.machine.specs.Boards.{freshBoard, siteAt, tallyAt}
 use Rattle.broadcast.specs.Machine.{World, State}
 use Rattle.broadcast.specs.Runs.{blank}
 use Rattle.agreement.proofs.Shows.{SiteShowsIn, TallyShowsIn, Shows}

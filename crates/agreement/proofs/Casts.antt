@@ -26,8 +26,8 @@ use Rattle.flight.specs.CellLaws.{has-bit-ones, has-bit-less}
 use Rattle.flight.specs.FlightLaws.{send-mask}
 use Rattle.flight.specs.SendLaws.{upTo, placeOf, place-up-to, length-to-all, length-to-others, take-to-others}
 use Rattle.flight.specs.BroadcastLaws.{Broadcast, third-broadcast, mask-none, first-all-mask, to-all-mask, to-others-mask, first-others-mask, has-bit-others}
-use Rattle.machine.specs.declared.Cut.{Cut}
-use Rattle.machine.specs.declared.Cut.the-variants.{Whole, After}
+use Rattle.steps.specs.declared.Cut.{Cut}
+use Rattle.steps.specs.declared.Cut.the-variants.{Whole, After}
 use Rattle.broadcast.specs.Machine.{World, whole, part, goes}
 use Rattle.broadcast.specs.Machine as theory
 

@@ -14,8 +14,8 @@ use Rattle.site.specs.declared.Site.{Site}
 use Rattle.site.specs.Sites.{siteDelivered}
 use Rattle.site.specs.Sends.{Step}
 use Rattle.site.specs.Steps.{deliveringAll}
-use Rattle.machine.specs.declared.Cut.{Cut}
-use Rattle.machine.specs.declared.Cut.the-variants.{Whole, After}
+use Rattle.steps.specs.declared.Cut.{Cut}
+use Rattle.steps.specs.declared.Cut.the-variants.{Whole, After}
 use Rattle.machine.proofs.SoundFacts.{RecordSound}
 use Rattle.invariants.proofs.SiteSound.{AllOffered}
 use Rattle.invariants.proofs.CarriedOut.{siteAfter}

@@ -9,8 +9,8 @@ use lib.ListN.{take}
 use Rattle.sets.specs.declared.Set.{Set}
 use Rattle.sets.specs.Truth.{never}
 use Rattle.site.specs.Sends.{Send, first, second, third, deliver, entry, toAll, toOthers}
-use Rattle.machine.specs.declared.Cut.{Cut}
-use Rattle.machine.specs.declared.Cut.the-variants.{Whole, After}
+use Rattle.steps.specs.declared.Cut.{Cut}
+use Rattle.steps.specs.declared.Cut.the-variants.{Whole, After}
 use Rattle.machine.specs.Calls.{pooling, entering}
 use Rattle.agreement.proofs.Casts.{outOf}
 

@@ -27,10 +27,11 @@ use Rattle.site.specs.Sends.{Send, Step}
 use Rattle.flight.specs.declared.Flight.{Flight}
 use Rattle.flight.specs.Flights.{sendingAll}
 use Rattle.machine.specs.declared.Board.{Board}
-use Rattle.machine.specs.declared.Cut.{Cut}
-use Rattle.machine.specs.declared.Cut.the-variants.{Whole, After}
+use Rattle.steps.specs.declared.Cut.{Cut}
+use Rattle.steps.specs.declared.Cut.the-variants.{Whole, After}
 use Rattle.machine.specs.Boards.{siteAt, tallyAt, isDown, boardTable, boardFlight}
-use Rattle.machine.specs.Calls.{carriedOut, pooling, entering, isCut, cutAfter}
+use Rattle.machine.specs.Calls.{carriedOut, pooling, entering}
+use Rattle.steps.specs.Causes.{isCut, cutAfter}
 use Rattle.invariants.proofs.Judged.{Acts}
 use Rattle.invariants.proofs.CarriedOut.{sendsOut, siteAfter, out-table, out-log, out-flight, out-pool, out-entries, out-site, out-site-other, out-tally, out-tally-other}
 use Rattle.invariants.proofs.History.{out-is-down}

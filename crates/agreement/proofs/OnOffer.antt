@@ -16,7 +16,7 @@ use Rattle.sets.specs.WordLaws.{empty-shape}
 use Rattle.sets.specs.Sets.{words, capacity, has, emptySet}
 use Rattle.posting.specs.declared.Posting.{Posting}
 use Rattle.posting.specs.declared.Table.{Table}
-use Rattle.posting.specs.Conflicts.{offered, row}
+use Rattle.posting.specs.Conflicts.{offered, row, tableWith}
 use Rattle.posting.specs.ConflictLaws.{offered-below, below-offered}
 use Rattle.site.specs.declared.Site.{Site}
 use Rattle.site.specs.Sites.{sites}
@@ -26,9 +26,9 @@ use Rattle.flight.specs.declared.Flight.{Flight}
 use Rattle.flight.specs.Flights.{inFlight, goodTo, carriedBy, sendingAll}
 use Rattle.flight.specs.BroadcastLaws.{first-broadcast}
 use Rattle.machine.specs.declared.Board.{Board}
-use Rattle.machine.specs.declared.Cut.{Cut}
-use Rattle.machine.specs.declared.Cut.the-variants.{Whole, After}
-use Rattle.machine.specs.Boards.{siteAt, tallyAt, isDown, tableWith, boardTable}
+use Rattle.steps.specs.declared.Cut.{Cut}
+use Rattle.steps.specs.declared.Cut.the-variants.{Whole, After}
+use Rattle.machine.specs.Boards.{siteAt, tallyAt, isDown, boardTable}
 use Rattle.machine.specs.Calls.{carriedOut}
 use Rattle.invariants.proofs.Judged.{OfferTaken, offerStep, postingOf}
 use Rattle.invariants.proofs.Grow.{Grows, new-row, new-offered, offered-old, table-grows}

@@ -27,8 +27,8 @@ use Rattle.site.specs.Sends.{Send, Step}
 use Rattle.site.specs.Steps.{onEntry}
 use Rattle.flight.specs.Flights.{sendingAll}
 use Rattle.machine.specs.declared.Board.{Board}
-use Rattle.machine.specs.declared.Cut.{Cut}
-use Rattle.machine.specs.declared.Cut.the-variants.{Whole, After}
+use Rattle.steps.specs.declared.Cut.{Cut}
+use Rattle.steps.specs.declared.Cut.the-variants.{Whole, After}
 use Rattle.machine.specs.Boards.{siteAt, tallyAt, entryAt, isDown}
 use Rattle.machine.specs.Calls.{carriedOut, pooling, entering}
 use Rattle.invariants.proofs.Judged.{ReadTaken, readStep, nextLogged}

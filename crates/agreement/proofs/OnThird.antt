@@ -35,10 +35,11 @@ use Rattle.flight.specs.Flights.{Shape as FlightShape, inFlight, carriedBy, tak
 use Rattle.flight.specs.FlightLaws.{taking-shape}
 use Rattle.flight.specs.BroadcastLaws.{deliver-broadcast}
 use Rattle.machine.specs.declared.Board.{Board}
-use Rattle.machine.specs.declared.Cut.{Cut}
-use Rattle.machine.specs.declared.Cut.the-variants.{Whole, After}
+use Rattle.steps.specs.declared.Cut.{Cut}
+use Rattle.steps.specs.declared.Cut.the-variants.{Whole, After}
 use Rattle.machine.specs.Boards.{siteAt, tallyAt, isDown, boardFlight}
-use Rattle.machine.specs.Calls.{carriedOut, receiptOf, pooling, entering, isCut}
+use Rattle.machine.specs.Calls.{carriedOut, receiptOf, pooling, entering}
+use Rattle.steps.specs.Causes.{isCut}
 use Rattle.machine.proofs.Shapes.{SiteShape}
 use Rattle.machine.proofs.SoundFacts.{SiteSound, TallySound}
 use Rattle.invariants.proofs.Judged.{Acts, ReceiptTaken}

@@ -17,10 +17,11 @@ use Rattle.site.specs.Sends.{FIRST, SECOND, THIRD, DELIVER}
 use Rattle.flight.specs.Flights.{inFlight}
 use Rattle.flight.specs.ArrayLaws.{message-range}
 use Rattle.machine.specs.declared.Board.{Board}
-use Rattle.machine.specs.declared.Cut.{Cut}
+use Rattle.steps.specs.declared.Cut.{Cut}
 use Rattle.machine.specs.declared.Call.{Call}
 use Rattle.machine.specs.declared.Call.the-variants.{Offer, Receive, Order, Read, Crash}
-use Rattle.machine.specs.Boards.{freshBoard, tableWith, boardTable, siteAt}
+use Rattle.machine.specs.Boards.{freshBoard, boardTable, siteAt}
+use Rattle.posting.specs.Conflicts.{tableWith}
 use Rattle.machine.specs.Calls.{receiptOf, offering, receiving, ordering, reading, crashing}
 use Rattle.machine.specs.Soundness.{setupOk}
 use Rattle.machine.specs.Runs.{taking, accepted, running, isAction}

@@ -2,7 +2,7 @@
 -- Assumes nothing.
 use mathlib.Core.Bool.{Bool, true}
 use lib.Count.{ones, onesIn}
-use Rattle.sets.specs.Below.{allBelow, anyBelow}
+use Rattle.sets.specs.Below.{allBelow, anyBelow, allOf}
 use Rattle.sets.specs.Masks.{hasBit}
 use Rattle.sets.specs.Numbers.{listed, distinct}
 use Rattle.sets.specs.Words.{member, insert, remove, insertIf, wordwise, union, intersect, isEmpty, isSubset, membersBelow, members, collect}
@@ -13,7 +13,7 @@ use Rattle.books.specs.Effect.{sizeOfCall, change, effect}
 use Rattle.site.specs.Sends.{toAll, toOthers}
 use Rattle.site.specs.Steps.{alone, onOffer, onFirst, stepSecond, onSecond, stepThird, onThird, onDeliver, onEntry, delivering, deliveringAll}
 use Rattle.flight.specs.Flights.{pairAt, cellAt, messageIn, wordsFrom, setIn, sendingTo, takingFrom, saying, carrying, nothingComes, inFlight, sending, sendingAll, takingOut, lowestTo, lowestFrom}
-use Rattle.machine.specs.Soundness.{allOf, setupOk, recordOk, siteOk, tallyOk, cellOk, cellsOk, entryOk, isSound}
+use Rattle.machine.specs.Soundness.{setupOk, recordOk, siteOk, tallyOk, cellOk, cellsOk, entryOk, isSound}
 use Rattle.machine.specs.Calls.{judged, starting, pooling, entering, carriedOut, offering, receiptOf, receiving, ordering, reading, crashing}
 use Rattle.machine.specs.Figures.{figuresOf, figuresOfAll, shown, showing, showingAll}
 use Rattle.machine.specs.Runs.{taking, running, answers, upMask, isQuiet}

@@ -1,4 +1,4 @@
--- The tables of specs/, evaluated.
+-- The table of specs/, evaluated, and what makes any table of cases compute.
 -- Assumes nothing.
 pub mod Computes
 pub mod Evaluated

@@ -1,32 +1,20 @@
 -- M1 to M10 of document 01, "Marked for proof", in one table, each with its words.
--- Rests on Trials.
+-- Rests on Trials and Boards.
 use Prim.Native.Nat.{ℕ}
 use mathlib.Core.Bool.{true, false}
-use mathlib.Core.List.{List, [], _∷_, _++_}
+use mathlib.Core.List.{List, [], _∷_}
 use lib.IntN.{pos, negℤ}
 use Rattle.posting.specs.declared.Posting.{Posting}
 use Rattle.posting.specs.Kinds.{trade, rate, call, net}
-use Rattle.site.specs.Sends.{FIRST, SECOND, THIRD}
-use Rattle.machine.specs.declared.Board.{Board}
-use Rattle.machine.specs.declared.Cut.the-variants.{Whole}
+use Rattle.site.specs.Sends.{FIRST}
+use Rattle.steps.specs.declared.Cut.the-variants.{Whole}
 use Rattle.machine.specs.declared.Call.{Call}
-use Rattle.machine.specs.declared.Call.the-variants.{Offer, Receive}
+use Rattle.machine.specs.declared.Call.the-variants.{Offer}
 use Rattle.machine.specs.declared.Answer.the-variants.{Done, Offered, Refused}
 use Rattle.machine.specs.Runs.{running}
 use Rattle.drain.specs.declared.Ending.the-variants.{Quiet, Spent}
-use Rattle.cases.specs.Trials.{Entry, View, start, conflicts, called, calls, drain, look, answer, answered, said, figure, ended, left, Case, _gives_, begun}
-
--- n 3, f 1, 0x5B6C
-abbrev pub began : Board
-began = begun 3 1 0x5B6C
-
--- a receipt, whole
-abbrev pub arrives : ℕ → ℕ → ℕ → ℕ → Call
-arrives form posting from to = Receive form posting from to Whole
-
--- a TRADE offered
-abbrev pub trading : List Call
-trading = Offer 0 trade 1 2 1000 Whole ∷ []
+use Rattle.cases.specs.Trials.{Entry, View, start, conflicts, called, calls, drain, look, answer, answered, said, figure, ended, left, Case, _gives_}
+use Rattle.cases.specs.Boards.{began, arrives, trading, m9, m10}
 
 -- postings of each kind
 abbrev pub aTrade : ℕ → ℕ → Posting
@@ -40,45 +28,6 @@ aCall account = record { owner = 0; kind = call; a = account; b = account; amoun
 
 abbrev pub aNet : ℕ → Posting
 aNet account = record { owner = 0; kind = net; a = account; b = account; amount = 0 }
-
--- ---- the schedules of M9 and M10
-
--- site 0 offers RATE, site 1 CALL, one account
-abbrev pub twoOffers : List Call
-twoOffers = Offer 0 rate 4 4 250 Whole ∷ Offer 1 call 4 4 0 Whole ∷ []
-
--- each owner gets its own FIRST first, site 2 gets RATE's first
-abbrev pub ownFirsts : List Call
-ownFirsts = arrives FIRST 0 0 0 ∷ arrives FIRST 1 1 1 ∷ arrives FIRST 0 0 2 ∷ []
-
--- the other FIRSTs
-abbrev pub otherFirsts : List Call
-otherFirsts = arrives FIRST 1 1 2 ∷ arrives FIRST 1 1 0 ∷ arrives FIRST 0 0 1 ∷ []
-
--- sites 0 and 2 step RATE, on what 0 and 2 said of it
-abbrev pub rateSteps : List Call
-rateSteps = arrives SECOND 0 0 0 ∷ arrives SECOND 0 2 0 ∷ arrives SECOND 0 0 2 ∷ arrives SECOND 0 2 2 ∷ []
-
--- site 0 receives RATE's THIRDs from 0 and 2
-abbrev pub rateThirds : List Call
-rateThirds = arrives THIRD 0 0 0 ∷ arrives THIRD 0 2 0 ∷ []
-
--- sites 1 and 2 step CALL, on what 1 and 2 said of it, and site 1 receives their THIRDs
-abbrev pub callEnds : List Call
-callEnds =
-    arrives SECOND 1 1 1 ∷ arrives SECOND 1 2 1 ∷ arrives SECOND 1 1 2 ∷ arrives SECOND 1 2 2
-    ∷ arrives THIRD 1 1 1 ∷ arrives THIRD 1 2 1
-    ∷ []
-
-abbrev pub m9 : List Call
-m9 = twoOffers ++ (ownFirsts ++ (otherFirsts ++ (rateSteps ++ (rateThirds ++ callEnds))))
-
--- the board that M9 ends on
-unfoldable pub m9End : Board
-m9End = running began m9
-
-abbrev pub m10 : List Call
-m10 = twoOffers ++ (ownFirsts ++ (rateSteps ++ (rateThirds ++ (otherFirsts ++ callEnds))))
 
 -- ---- the table
 

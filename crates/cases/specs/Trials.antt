@@ -138,9 +138,13 @@ trialOf (trial gives result) = trial
 abbrev pub resultOf : Case → Result
 resultOf (trial gives result) = result
 
+-- what must come of each case of a table
+abbrev pub results : List Case → List Result
+results cases = map resultOf cases
+
 -- all cases of a table hold
 abbrev pub Hold : List Case → Type 0
-Hold cases = map (λ c. found (trialOf c)) cases ≡ map resultOf cases
+Hold cases = map (λ c. found (trialOf c)) cases ≡ results cases
 
 -- the board of a start
 abbrev pub begun : ℕ → ℕ → ℕ → Board

@@ -3,4 +3,5 @@
 pub mod Searches
 pub mod Nexts
 pub mod NextEvent
+pub mod Floor
 pub mod Loop

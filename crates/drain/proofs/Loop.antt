@@ -1,11 +1,13 @@
 -- Drain's loop: what each turn does is one event of the definition, from the results of the code's calls; and what its ends give.
--- Rests on NextEvent, Nexts, on machine's laws and on invariants. Assumes nothing.
-use Prim.Native.Nat.{ℕ, zero, suc, _+_, _-_, _<_, _≤_}
+-- Rests on NextEvent, Nexts, Floor, on machine's laws and on invariants. Assumes nothing.
+use Prim.Native.Nat.{ℕ, zero, suc, _+_, _-_, _^_, _<_, _≤_}
 use mathlib.Core.Path.{_≡_, refl, sym, ap, _∙_}
 use mathlib.Core.Logic.{_≢_}
 use mathlib.Core.Bool.{Bool, true, false, cond}
 use mathlib.Core.List.{List}
 use native.Mathlib.Omega.{arith}
+use lib.ListN.{take, drop}
+use lib.Pow.{pow-mono}
 use Rattle.sets.specs.declared.Set.{Set}
 use Rattle.sets.specs.Truth.{never, not-so}
 use Rattle.sets.specs.Sets.{capacity, membersOf, without}
@@ -18,9 +20,10 @@ use Rattle.site.specs.Steps.{ownerOf}
 use Rattle.site.specs.ByMask.{readSite, deliveringEntry}
 use Rattle.flight.specs.declared.Found.{Found}
 use Rattle.flight.specs.declared.Found.the-variants.{Nothing, Message}
-use Rattle.flight.specs.Flights.{inFlight, takingOut, lowestIn, lowest}
+use Rattle.flight.specs.Flights.{cells, inFlight, sendingTo, takingFrom, takingOut, lowestFrom, lowestIn, lowest}
+use Rattle.flight.specs.FloorLaws.{NoneBelow, floor-search, message-floor, nothing-floor}
 use Rattle.machine.specs.declared.Board.{Board}
-use Rattle.machine.specs.declared.Cut.the-variants.{Whole}
+use Rattle.steps.specs.declared.Cut.the-variants.{Whole}
 use Rattle.machine.specs.declared.Call.{Call}
 use Rattle.machine.specs.declared.Call.the-variants.{Receive, Order, Read}
 use Rattle.machine.specs.Boards.{siteAt, entryAt, loggedAt, boardFlight, boardPool}
@@ -34,7 +37,9 @@ use Rattle.invariants.proofs.Reached.{GoodIf, good-sites, good-flight, call-goo
 use Rattle.drain.specs.declared.Ending.{Ending}
 use Rattle.drain.specs.declared.Ending.the-variants.{Quiet, Spent}
 use Rattle.drain.specs.declared.Drained.{Drained}
+use Rattle.drain.specs.Firsts.{lowestChanged}
 use Rattle.drain.specs.Drain.{Next, none, event, nextOrder, nextRead, nextAfter, nextEvent, draining}
+use Rattle.drain.proofs.Floor.{passed-floor}
 use Rattle.drain.proofs.NextEvent.{next-accepted, next-none, quiet-next, not-none}
 
 -- ---- one event more, and the ends
@@ -91,10 +96,22 @@ pub next-other : (b : Board) → lowest (b .flight) (upMask b) ≡ Nothing → n
 unfolding nextEvent nextAfter
 next-other b e = rw e
 
+-- no cell below the floor has a message for a site that is up
+abbrev pub Floor : Board → ℕ → Type 0
+Floor b floor = NoneBelow (b .flight .masks) (upByte (b .setup .n) (b .down)) floor
+
 -- from the results of the search
-module _ {clean : Bool} (b : Board) (g : GoodIf clean b) (up : ℕ) (found : Found) (masked : up ≡ upByte (b .setup .n) (b .down)) (sought : found ≡ lowestIn (b .flight .masks) up) where
+module _ {clean : Bool} (b : Board) (g : GoodIf clean b) (floor : ℕ) (low : Floor b floor) (up : ℕ) (found : Found) (masked : up ≡ upByte (b .setup .n) (b .down))
+    (sought : found ≡ lowestFrom floor (drop floor (take cells (b .flight .masks))) up) where
+  from-all : found ≡ lowestIn (b .flight .masks) (upByte (b .setup .n) (b .down))
+  from-all = sought ∙ rw masked (sym (floor-search (b .flight .masks) (upByte (b .setup .n) (b .down)) floor low))
+
   searched : found ≡ lowest (b .flight) (upMask b)
-  searched = sought ∙ rw (masked, up-byte b (good-sites b g))
+  searched = from-all ∙ rw (up-byte b (good-sites b g))
+
+  up-small : upByte (b .setup .n) (b .down) < 2 ^ sites
+  unfolding upMask
+  up-small = omega (arith, up-byte b (good-sites b g), pow-mono (good-sites b g))
 
   pub message-next : (form m from to : ℕ) → found ≡ Message form m from to → nextEvent b ≡ event (Receive form m from to Whole)
   message-next form m from to e = next-message b form m from to (sym searched ∙ e)
@@ -102,20 +119,33 @@ module _ {clean : Bool} (b : Board) (g : GoodIf clean b) (up : ℕ) (found : Fou
   pub other-next : found ≡ Nothing → nextEvent b ≡ nextOrder b (membersOf (b .pool))
   other-next e = next-other b (sym searched ∙ e)
 
--- ---- the loop's invariant: the board is sound, and what is left to do from it is what the drain does
+  -- the floor of the board that the receipt leaves, and of this one where nothing was found
+  pub receipt-floor :
+      (form m from to sent receivers next : ℕ) (masks : List ℕ) → found ≡ Message form m from to → next ≡ lowestChanged form m from sent to receivers
+      → masks ≡ sendingTo (takingFrom (b .flight .masks) form m from to) sent m to receivers → NoneBelow masks (upByte (b .setup .n) (b .down)) next
+  receipt-floor form m from to sent receivers next masks e f passed =
+      let at = message-floor (b .flight .masks) (upByte (b .setup .n) (b .down)) up-small form m from to (sym from-all ∙ e) in
+      rw (passed, f) (passed-floor form m from sent to receivers (b .flight .masks) (upByte (b .setup .n) (b .down)) at)
 
-pub record Going (board : Board) (limit : ℕ) (b : Board) (count : ℕ) : Type 0 where
+  pub other-floor : found ≡ Nothing → Floor b cells
+  other-floor e = nothing-floor (b .flight .masks) (upByte (b .setup .n) (b .down)) up-small (sym from-all ∙ e)
+
+-- ---- the loop's invariant: the board is sound, what is left to do from it is what the drain does, and the floor is one
+
+pub record Going (board : Board) (limit : ℕ) (b : Board) (count floor : ℕ) : Type 0 where
   pub within : count ≤ limit
   pub good : GoodIf false b
   pub same : draining limit limit 0 board ≡ draining (limit - count) limit count b
+  pub low : Floor b floor
 
 -- one event more
-pub one-more : (board : Board) (limit : ℕ) (b : Board) (count : ℕ) → Going board limit b count → (c : Call) → nextEvent b ≡ event c → count ≢ limit
-    → (after : Board) → after ≡ taking b c .board → Going board limit after (count + 1)
-one-more board limit b count k c e d after a = record {
+pub one-more : (board : Board) (limit : ℕ) (b : Board) (count floor : ℕ) → Going board limit b count floor → (c : Call) → nextEvent b ≡ event c → count ≢ limit
+    → (after : Board) → after ≡ taking b c .board → (next : ℕ) → Floor after next → Going board limit after (count + 1) next
+one-more board limit b count floor k c e d after a next low = record {
   within = omega (arith, k .within, d);
   good = rw a (call-good b (k .good) c);
   same = k .same ∙ goes-on b (k .good) limit count c e d (k .within) after a;
+  low = low;
 }
 
 -- ---- what the event does

@@ -20,8 +20,8 @@ use Rattle.flight.specs.declared.Found.the-variants.{Nothing, Message}
 use Rattle.flight.specs.Flights.{inFlight, lowest}
 use Rattle.flight.specs.LowestLaws.{IsLowest, lowest-found, lowest-nothing}
 use Rattle.machine.specs.declared.Board.{Board}
-use Rattle.machine.specs.declared.Cut.{Cut}
-use Rattle.machine.specs.declared.Cut.the-variants.{Whole}
+use Rattle.steps.specs.declared.Cut.{Cut}
+use Rattle.steps.specs.declared.Cut.the-variants.{Whole}
 use Rattle.machine.specs.declared.Call.{Call}
 use Rattle.machine.specs.declared.Call.the-variants.{Offer, Receive, Order, Read, Crash}
 use Rattle.machine.specs.Boards.{siteAt, isDown, isUp}

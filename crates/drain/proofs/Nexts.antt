@@ -13,7 +13,7 @@ use Rattle.sets.specs.Truth.{and-left, and-right, not-flips}
 use Rattle.sets.specs.Words.{member, membersBelow, members}
 use Rattle.sets.specs.Sets.{words, capacity, has, membersOf}
 use Rattle.machine.specs.declared.Board.{Board}
-use Rattle.machine.specs.declared.Cut.the-variants.{Whole}
+use Rattle.steps.specs.declared.Cut.the-variants.{Whole}
 use Rattle.machine.specs.declared.Call.the-variants.{Order, Read}
 use Rattle.machine.specs.Boards.{siteAt, isDown, isUp}
 use Rattle.drain.specs.Drain.{none, event, nextRead, nextOrder}

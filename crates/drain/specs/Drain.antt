@@ -9,7 +9,7 @@ use Rattle.flight.specs.declared.Found.{Found}
 use Rattle.flight.specs.declared.Found.the-variants.{Nothing, Message}
 use Rattle.flight.specs.Flights.{lowest}
 use Rattle.machine.specs.declared.Board.{Board}
-use Rattle.machine.specs.declared.Cut.the-variants.{Whole, After}
+use Rattle.steps.specs.declared.Cut.the-variants.{Whole, After}
 use Rattle.machine.specs.declared.Call.{Call}
 use Rattle.machine.specs.declared.Call.the-variants.{Offer, Receive, Order, Read, Crash}
 use Rattle.machine.specs.Boards.{siteAt, isUp}

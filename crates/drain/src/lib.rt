@@ -5,18 +5,20 @@ ghost use mathlib.Core.Bool.{true};
 ghost use Rattle.machine.specs.Soundness.{isSound};
 ghost use Rattle.drain.specs.Drain.{draining, drained};
 use flight::Found;
+use flight::MASKS;
 use machine::Board;
-use machine::passing::pass_carried;
-use machine::passing::pass_good;
-use machine::passing::pass_masks;
 use machine::quiet::up_mask;
-use machine::steps::entered;
-use machine::steps::enters;
-use machine::steps::receipt;
-use machine::steps::settle;
+use next::lowest_changed;
 use next::lowest_member;
 use next::next_reader;
 use sets::POSTINGS;
+use steps::entered;
+use steps::enters;
+use steps::passing::pass_carried;
+use steps::passing::pass_good;
+use steps::passing::pass_masks;
+use steps::receipt;
+use steps::settle;
 
 pub mod next;
 
@@ -35,17 +37,19 @@ pub struct Drained {
     pub ending: Ending,
 }
 
-// Drain, of a sound board: the board stays where it is while events are done.
+// Drain, of a sound board: the board stays where it is while events are done. No cell below the floor has a message for a site that is up,
+// so the search begins there; a receipt puts the floor at the lowest cell that it changes.
 pub fn drain_sound(board: Board, limit: u64) -> Drained
     requires { ⌜ isSound board ≡ true ⌝ }
     ensures { λ r. ⌜ r ≡ draining limit limit 0 board ⌝ }
 {
     let mut d = board;
     let mut count: u64 = 0;
+    let mut floor: usize = 0;
     let ending = loop {
         let setup = d.setup;
         let up = up_mask(setup.n, d.down);
-        let found = flight::lowest(&d.flight.masks, up);
+        let found = flight::lowest_from(&d.flight.masks, up, floor);
         match found {
             Found::Message {
                 form,
@@ -108,9 +112,11 @@ pub fn drain_sound(board: Board, limit: u64) -> Drained
                 let old = d.entries[posting];
                 let entry = entered(old, sends);
                 d.entries[posting] = entry;
+                floor = lowest_changed(form, posting, from, sent, to, sends.to);
                 count = count + 1;
             }
             Found::Nothing => {
+                floor = MASKS;
                 let pool = d.pool;
                 let first = lowest_member(pool);
                 if first < POSTINGS {

@@ -17,7 +17,7 @@ use Rattle.machine.specs.Runs.{running}
 use Rattle.machine.specs.Figures.{showingAll}
 use Rattle.drain.specs.declared.Drained.{Drained}
 use Rattle.drain.specs.Drain.{draining, drained}
-use Rattle.runfile.specs.RunFile.{setupOf, wellFormed, callsOf}
+use Rattle.decoder.specs.RunFile.{setupOf, wellFormed, callsOf}
 use Rattle.runfile.specs.Program.{StaysSound}
 use Rattle.runfile.proofs.Programs.{startWith}
 use Rattle.statements.proofs.Stated.{drain-stays, run-stays}

@@ -1,8 +1,8 @@
 -- What an exported function answers, as a number.
--- Rests on runfile.
+-- Rests on printer.
 use Prim.Native.Nat.{ℕ}
-use Rattle.runfile.specs.declared.Printed.{Printed}
-use Rattle.runfile.specs.declared.Printed.the-variants.{Written, Short}
+use Rattle.printer.specs.declared.Printed.{Printed}
+use Rattle.printer.specs.declared.Printed.the-variants.{Written, Short}
 
 -- how many bytes were written; 2^64 − 1, which is no slice's length, where the slice is too short
 abbrev pub countOf : Printed → ℕ

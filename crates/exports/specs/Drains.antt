@@ -1,5 +1,5 @@
 -- A run file run, the board drained with a limit, and the books of all sites: what the exported function answers, and the slice.
--- Rests on runfile, drain and machine.
+-- Rests on decoder, drain and machine.
 use Prim.Native.Nat.{ℕ}
 use mathlib.Core.Bool.{cond}
 use mathlib.Core.List.{List}
@@ -12,7 +12,7 @@ use Rattle.machine.specs.Calls.{refusalOf, starting}
 use Rattle.machine.specs.Runs.{running}
 use Rattle.machine.specs.Figures.{showingAll}
 use Rattle.drain.specs.Drain.{drained}
-use Rattle.runfile.specs.RunFile.{setupOf, wellFormed, callsOf}
+use Rattle.decoder.specs.RunFile.{setupOf, wellFormed, callsOf}
 
 -- the answer where there is no count: 2^64 − 1
 abbrev pub noCount : ℕ

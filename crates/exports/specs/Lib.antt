@@ -1,4 +1,4 @@
 -- Answers: what an exported function answers.
--- Rests on runfile.
+-- Rests on decoder, printer, drain and machine.
 pub mod Answers
 pub mod Drains

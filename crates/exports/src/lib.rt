@@ -1,18 +1,18 @@
 // What other languages call: the programs, over an input and an output slice.
-// Rests on runfile, drain and machine. Each function takes any bytes: a slice without room for the output stays as it was, and the answer says so.
+// Rests on runfile, decoder, printer, drain and machine. Each function takes any bytes: a slice without room for the output stays as it was, and the answer says so.
 ghost use Prim.Native.Nat.{_≤_};
 ghost use mathlib.Core.Path.{_≡_};
-ghost use Rattle.runfile.specs.RunFile.{eventLimit, eventCount, callsOf};
-ghost use Rattle.runfile.specs.Writing.{slicePrinted, answerPrinted};
+ghost use Rattle.decoder.specs.RunFile.{eventLimit, eventCount, callsOf};
+ghost use Rattle.printer.specs.Writing.{slicePrinted, answerPrinted};
 ghost use Rattle.runfile.specs.Program.{StaysSound, printed};
 ghost use Rattle.exports.specs.Answers.{countOf};
 ghost use Rattle.exports.specs.Drains.{drainedRun, drainedFile};
+use decoder::file::EVENTS;
+use decoder::file::setup_of;
+use decoder::file::well_formed;
 use drain::drain_sound;
 use machine::Board;
-use runfile::Printed;
-use runfile::file::EVENTS;
-use runfile::file::setup_of;
-use runfile::file::well_formed;
+use printer::Printed;
 use runfile::run::refusal_of;
 use runfile::run::run_events;
 

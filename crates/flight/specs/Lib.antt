@@ -9,3 +9,4 @@ pub mod SendLaws
 pub mod BroadcastLaws
 pub mod SearchLaws
 pub mod LowestLaws
+pub mod FloorLaws

@@ -33,7 +33,7 @@ pub record IsLowest (flight : Flight) (up f x a b : ℕ) : Type 0 where
   pub comes : hasBit up b ≡ true
   pub least : (g y c d : ℕ) → inFlight flight g y c d ≡ true → hasBit up d ≡ true → isLower g y c d f x a b ≡ false
 
-never-both : {f x a b : ℕ} → Nothing ≡ Message f x a b → ⊥
+pub never-both : {f x a b : ℕ} → Nothing ≡ Message f x a b → ⊥
 never-both e = let z : _≡_ {A = ℕ} 0 1 = cc in omega arith
 
 -- ---- cells by their place
@@ -42,7 +42,7 @@ module _ (k : ℕ) (h : k < cells) where
   place-range : (k / pairs < forms) × (k / sites % capacity < capacity) × (k % sites < sites)
   place-range = (omega arith, omega arith, omega arith)
 
-  place-cell : cellAt (k / pairs) (k / sites % capacity) (k % sites) ≡ k
+  pub place-cell : cellAt (k / pairs) (k / sites % capacity) (k % sites) ≡ k
   place-cell = cell-in (k / pairs) (k / sites % capacity) (k % sites) (place-range .0) (place-range .1) (place-range .2) ∙ omega arith
 
 -- a lower message stands in a lower cell, or in the same to a lower site

@@ -3,9 +3,9 @@
 // is not in flight, and changes nothing.
 ghost use Prim.Native.Nat.{_^_};
 ghost use mathlib.Core.Path.{_≡_};
-ghost use lib.ListN.{take};
+ghost use lib.ListN.{take, drop};
 ghost use Rattle.sets.specs.Masks.{hasBit};
-ghost use Rattle.flight.specs.Flights.{cells, less, pairAt, cellAt, messageIn, goodIn, setIn, sendingTo, takingFrom, goodSent, setSent, carrying, goodTaken, setTaken, lowestIn, nothingComes, emptyFlight};
+ghost use Rattle.flight.specs.Flights.{cells, less, pairAt, cellAt, messageIn, goodIn, setIn, sendingTo, takingFrom, goodSent, setSent, carrying, goodTaken, setTaken, lowestFrom, nothingComes, emptyFlight};
 use sets::POSTINGS;
 use sets::Set;
 use sets::WORDS;
@@ -94,7 +94,7 @@ fn pair(m: usize, from: usize) -> usize
 }
 
 // The place of a form, posting and sender; the number past the last if there is none.
-fn cell(form: usize, m: usize, from: usize) -> usize
+pub fn cell(form: usize, m: usize, from: usize) -> usize
     ensures { λ r. ⌜ r ≡ cellAt form m from ⌝ }
 {
     let i = pair(m, from);
@@ -258,12 +258,12 @@ pub fn clear_carried(carried: &mut [u64; LOADS], form: usize, m: usize, from: us
 
 // ---- the lowest message
 
-// The lowest message by form, posting, from, to at a site of the mask.
-pub fn lowest(masks: &[u8; MASKS], up: u8) -> Found
-    ensures { λ r. ⌜ r ≡ lowestIn (now (masks .entry)) up ⌝ }
+// The lowest message by form, posting, from, to at a site of the mask, from a cell on. Where no lower cell has one it is the lowest of all.
+pub fn lowest_from(masks: &[u8; MASKS], up: u8, first: usize) -> Found
+    ensures { λ r. ⌜ r ≡ lowestFrom first (drop first (take cells (now (masks .entry)))) up ⌝ }
 {
     let mut found = Found::Nothing;
-    'search: for k in 0..MASKS {
+    'search: for k in first..MASKS {
         let w = masks[k] & up;
         if w == 0 {
             continue;

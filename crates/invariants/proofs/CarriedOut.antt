@@ -16,10 +16,11 @@ use Rattle.site.specs.Sends.{Send, Step}
 use Rattle.site.specs.Steps.{deliveredSite}
 use Rattle.flight.specs.Flights.{sendingAll}
 use Rattle.machine.specs.declared.Board.{Board}
-use Rattle.machine.specs.declared.Cut.{Cut}
-use Rattle.machine.specs.declared.Cut.the-variants.{Whole, After}
+use Rattle.steps.specs.declared.Cut.{Cut}
+use Rattle.steps.specs.declared.Cut.the-variants.{Whole, After}
 use Rattle.machine.specs.Boards.{siteAt, tallyAt}
-use Rattle.machine.specs.Calls.{carriedOut, pooling, entering, isCut}
+use Rattle.machine.specs.Calls.{carriedOut, pooling, entering}
+use Rattle.steps.specs.Causes.{isCut}
 
 -- the sends that go out, and the site after the step
 abbrev pub sendsOut : Step → Cut → List Send

@@ -12,11 +12,10 @@ use Rattle.sets.specs.Sets.{capacity}
 use Rattle.posting.specs.declared.Posting.{Posting}
 use Rattle.posting.specs.declared.Table.{Table}
 use Rattle.posting.specs.declared.Record.{Record}
-use Rattle.posting.specs.Conflicts.{noPosting, row, offered}
+use Rattle.posting.specs.Conflicts.{noPosting, row, offered, tableWith}
 use Rattle.posting.specs.ConflictLaws.{offered-below, below-offered}
 use Rattle.site.specs.declared.Site.{Site}
 use Rattle.site.specs.declared.Tally.{Tally}
-use Rattle.machine.specs.Boards.{tableWith}
 use Rattle.machine.proofs.SoundFacts.{Offers, MaskSound, RecordSound, SiteSound, TallySound}
 
 -- every posting of t is in u, in the same row

@@ -21,7 +21,7 @@ use Rattle.sets.specs.Numbers.{listed}
 use Rattle.sets.specs.Sets.{capacity, has}
 use Rattle.posting.specs.declared.Posting.{Posting}
 use Rattle.posting.specs.declared.Table.{Table}
-use Rattle.posting.specs.Conflicts.{noPosting, row}
+use Rattle.posting.specs.Conflicts.{noPosting, row, tableWith}
 use Rattle.posting.specs.ConflictLaws.{offered-below, below-offered}
 use Rattle.posting.specs.Records.{numbersOf, contains}
 use Rattle.posting.specs.RecordLaws.{numbers-append}
@@ -35,12 +35,13 @@ use Rattle.site.specs.Steps.{quorum, noStep, tallied, onOffer, onFirst, onSecon
 use Rattle.flight.specs.declared.Flight.{Flight}
 use Rattle.flight.specs.Flights.{takingOut, goodTo, carriedBy}
 use Rattle.machine.specs.declared.Board.{Board}
-use Rattle.machine.specs.declared.Cut.{Cut}
-use Rattle.machine.specs.declared.Cut.the-variants.{Whole, After}
+use Rattle.steps.specs.declared.Cut.{Cut}
+use Rattle.steps.specs.declared.Cut.the-variants.{Whole, After}
 use Rattle.machine.specs.declared.Call.{Call}
 use Rattle.machine.specs.declared.Call.the-variants.{Offer, Receive, Order, Read, Crash}
-use Rattle.machine.specs.Boards.{siteAt, tallyAt, isDown, tableWith, boardTable, boardFlight}
-use Rattle.machine.specs.Calls.{isCut, carriedOut, receiptOf}
+use Rattle.machine.specs.Boards.{siteAt, tallyAt, isDown, boardTable, boardFlight}
+use Rattle.steps.specs.Causes.{isCut}
+use Rattle.machine.specs.Calls.{carriedOut, receiptOf}
 use Rattle.machine.specs.Runs.{taking, accepted, running}
 use Rattle.machine.specs.History.{acceptedCalls, offers, orders, reads, bringsDown, broughtDown}
 use Rattle.machine.proofs.Shapes.{BoardShape}

@@ -20,16 +20,18 @@ use Rattle.site.specs.Sends.{Step}
 use Rattle.site.specs.Steps.{onOffer, onEntry}
 use Rattle.flight.specs.Flights.{inFlight, takingOut}
 use Rattle.machine.specs.declared.Board.{Board}
-use Rattle.machine.specs.declared.Cut.{Cut}
-use Rattle.machine.specs.declared.Cut.the-variants.{Whole, After}
+use Rattle.steps.specs.declared.Cut.{Cut}
+use Rattle.steps.specs.declared.Cut.the-variants.{Whole, After}
 use Rattle.machine.specs.declared.Call.{Call}
 use Rattle.machine.specs.declared.Call.the-variants.{Offer, Receive, Order, Read, Crash}
 use Rattle.machine.specs.declared.Answer.{Answer}
 use Rattle.machine.specs.declared.Answer.the-variants.{Done, Offered, Refused}
 use Rattle.machine.specs.declared.Outcome.{Outcome}
-use Rattle.machine.specs.Boards.{siteAt, tallyAt, entryAt, loggedAt, isDown, tableWith, boardTable, boardFlight, boardDown, boardPool}
+use Rattle.machine.specs.Boards.{siteAt, tallyAt, entryAt, loggedAt, isDown, boardTable, boardFlight, boardDown, boardPool}
+use Rattle.posting.specs.Conflicts.{tableWith}
 use Rattle.machine.specs.Soundness.{isSound}
-use Rattle.machine.specs.Calls.{Cause, cause, judged, carriedOut, crashesSpent, isCut, cutAfter, noSuchSite, receiptOf, offering, receiving, ordering, reading, crashing}
+use Rattle.steps.specs.Causes.{Cause, cause, isCut, cutAfter}
+use Rattle.machine.specs.Calls.{judged, carriedOut, crashesSpent, noSuchSite, receiptOf, offering, receiving, ordering, reading, crashing}
 use Rattle.machine.specs.Runs.{taking, accepted}
 
 -- ---- a list of causes

@@ -22,7 +22,7 @@ use Rattle.posting.specs.declared.Posting.{Posting}
 use Rattle.posting.specs.declared.Table.{Table}
 use Rattle.posting.specs.declared.Record.{Record}
 use Rattle.posting.specs.Kinds.{fieldsOk}
-use Rattle.posting.specs.Conflicts.{row, offered}
+use Rattle.posting.specs.Conflicts.{row, offered, tableWith}
 use Rattle.posting.specs.ConflictLaws.{offered-below}
 use Rattle.posting.specs.Records.{numbersOf, contains, append}
 use Rattle.posting.specs.RecordLaws.{Places, append-places, numbers-append}
@@ -37,13 +37,14 @@ use Rattle.flight.specs.Flights.{Shape as FlightShape, receiversIn, cellAt, sen
 use Rattle.flight.specs.FlightLaws.{sending-shape}
 use Rattle.flight.specs.CellLaws.{cell-in}
 use Rattle.machine.specs.declared.Board.{Board}
-use Rattle.machine.specs.declared.Cut.{Cut}
-use Rattle.machine.specs.declared.Cut.the-variants.{Whole, After}
+use Rattle.steps.specs.declared.Cut.{Cut}
+use Rattle.steps.specs.declared.Cut.the-variants.{Whole, After}
 use Rattle.machine.specs.declared.Call.{Call}
 use Rattle.machine.specs.declared.Call.the-variants.{Offer, Receive, Order, Read, Crash}
-use Rattle.machine.specs.Boards.{siteAt, tallyAt, entryAt, tableWith, boardTable, boardFlight}
+use Rattle.machine.specs.Boards.{siteAt, tallyAt, entryAt, boardTable, boardFlight}
 use Rattle.machine.specs.Soundness.{isSound, setupOk, sitesOk, crashesOk}
-use Rattle.machine.specs.Calls.{carriedOut, isCut, pooling, entering}
+use Rattle.machine.specs.Calls.{carriedOut, pooling, entering}
+use Rattle.steps.specs.Causes.{isCut}
 use Rattle.machine.proofs.Shapes.{SiteShape, BoardShape}
 use Rattle.machine.proofs.SoundFacts.{AllTrue, of-all, Offers, MaskSound, RecordSound, SiteSound, TallySound, CellSound, EntrySound, Sound}
 use Rattle.machine.proofs.Facts.{setup-sites}

@@ -24,14 +24,15 @@ use Rattle.site.specs.Sends.{forms}
 use Rattle.flight.specs.Flights.{receiversIn, inFlight, nothingComes, cellAt}
 use Rattle.flight.specs.CellLaws.{cell-in, cell-range, range-cell}
 use Rattle.machine.specs.declared.Board.{Board}
-use Rattle.machine.specs.declared.Cut.{Cut}
-use Rattle.machine.specs.declared.Cut.the-variants.{Whole, After}
+use Rattle.steps.specs.declared.Cut.{Cut}
+use Rattle.steps.specs.declared.Cut.the-variants.{Whole, After}
 use Rattle.machine.specs.declared.Call.{Call}
 use Rattle.machine.specs.declared.Call.the-variants.{Offer, Receive, Order, Read, Crash}
 use Rattle.machine.specs.declared.Outcome.{Outcome}
 use Rattle.machine.specs.Boards.{siteAt, isDown}
 use Rattle.machine.specs.Soundness.{isSound}
-use Rattle.machine.specs.Calls.{Cause, judged, noSuchSite, receiptOf, receiving, ordering, reading}
+use Rattle.steps.specs.Causes.{Cause}
+use Rattle.machine.specs.Calls.{judged, noSuchSite, receiptOf, receiving, ordering, reading}
 use Rattle.machine.specs.Runs.{taking, accepted, upMask, isQuiet, isAction, NothingLeft}
 use Rattle.machine.proofs.SoundFacts.{Sound, no-bits}
 use Rattle.machine.proofs.SoundTest.{facts-sound}

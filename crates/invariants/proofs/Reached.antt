@@ -24,7 +24,7 @@ use Rattle.sets.specs.Sets.{capacity, words, has, without, emptySet, Shape}
 use Rattle.posting.specs.declared.Posting.{Posting}
 use Rattle.posting.specs.declared.Table.{Table}
 use Rattle.posting.specs.Kinds.{fieldsOk}
-use Rattle.posting.specs.Conflicts.{noPosting, row, offered}
+use Rattle.posting.specs.Conflicts.{noPosting, row, offered, tableWith}
 use Rattle.posting.specs.ConflictLaws.{offered-below, below-offered}
 use Rattle.posting.specs.Records.{numbersOf, contains, append}
 use Rattle.posting.specs.RecordLaws.{Places, append-places, numbers-append, append-room, empty-places}
@@ -38,10 +38,10 @@ use Rattle.flight.specs.CellLaws.{cell-range}
 use Rattle.flight.specs.CarriedLaws.{set-shape-in}
 use Rattle.flight.specs.FlightLaws.{taking-shape, empty-flight-shape, empty-in-flight}
 use Rattle.machine.specs.declared.Board.{Board}
-use Rattle.machine.specs.declared.Cut.{Cut}
+use Rattle.steps.specs.declared.Cut.{Cut}
 use Rattle.machine.specs.declared.Call.{Call}
 use Rattle.machine.specs.declared.Call.the-variants.{Offer, Receive, Order, Read, Crash}
-use Rattle.machine.specs.Boards.{siteAt, tallyAt, entryAt, loggedAt, tableWith, boardTable, boardFlight}
+use Rattle.machine.specs.Boards.{siteAt, tallyAt, entryAt, loggedAt, boardTable, boardFlight}
 use Rattle.machine.specs.Calls.{carriedOut, receiptOf}
 use Rattle.machine.specs.Runs.{taking, accepted, running}
 use Rattle.machine.proofs.Shapes.{SiteShape, BoardShape}

@@ -17,7 +17,7 @@ use Rattle.sets.specs.WordLaws.{empty-shape, member-empty}
 use Rattle.sets.specs.Sets.{capacity, words, has, emptySet, Shape}
 use Rattle.posting.specs.declared.Table.{Table}
 use Rattle.posting.specs.Kinds.{symmetric, hasFixedPairs}
-use Rattle.posting.specs.Conflicts.{noPosting, row, offered}
+use Rattle.posting.specs.Conflicts.{noPosting, row, offered, emptyTable}
 use Rattle.posting.specs.ConflictLaws.{offered-below}
 use Rattle.posting.specs.Records.{numbersOf}
 use Rattle.posting.specs.RecordLaws.{empty-places}
@@ -26,14 +26,14 @@ use Rattle.site.specs.declared.Site.{Site}
 use Rattle.site.specs.declared.Tally.{Tally}
 use Rattle.site.specs.Sites.{sites, blankSite, blankTally, noSite, noTally, noSet}
 use Rattle.flight.specs.Flights.{emptyFlight}
-use Rattle.flight.specs.FlightLaws.{empty-flight-shape, empty-in-flight}
+use Rattle.flight.specs.FlightLaws.{empty-flight-shape, empty-in-flight, empty-good, empty-carried}
 use Rattle.flight.specs.ArrayLaws.{zero-at}
-use Rattle.flight.specs.FlightLaws.{empty-good, empty-carried}
 use Rattle.machine.specs.declared.Board.{Board}
 use Rattle.machine.specs.declared.Call.{Call}
 use Rattle.machine.specs.declared.Outcome.{Outcome}
-use Rattle.machine.specs.Boards.{freshBoard, emptyTable, siteAt, tallyAt, entryAt}
-use Rattle.machine.specs.Soundness.{allOf, setupOk, sitesOk, crashesOk, isSound}
+use Rattle.machine.specs.Boards.{freshBoard, siteAt, tallyAt, entryAt}
+use Rattle.sets.specs.Below.{allOf}
+use Rattle.machine.specs.Soundness.{setupOk, sitesOk, crashesOk, isSound}
 use Rattle.machine.specs.Calls.{starting}
 use Rattle.machine.specs.Runs.{taking, accepted, running}
 use Rattle.machine.specs.History.{acceptedCalls, offers, orders, reads, broughtDown}

@@ -1,22 +1,20 @@
 -- Refusals by number: a list of causes judged part by part, as the code tests them.
 -- Rests on Calls and ByMask. Assumes nothing.
-use Prim.Native.Nat.{ℕ, zero, suc, _<_}
+use Prim.Native.Nat.{ℕ, _<_}
 use mathlib.Core.Path.{_≡_, refl, sym, _∙_}
 use mathlib.Core.Logic.{inl, inr, _≢_}
-use mathlib.Core.Bool.{Bool, true, false, cond, not}
+use mathlib.Core.Bool.{Bool, true, false, not}
 use mathlib.Core.List.{List, [], _∷_, _++_, append-nil}
 use native.Mathlib.Omega.{arith}
-use borrow.Author.Tests.{le-ltb}
 use Rattle.sets.specs.Truth.{test}
 use Rattle.machine.specs.declared.Board.{Board}
 use Rattle.machine.specs.declared.Outcome.{Outcome}
-use Rattle.machine.specs.declared.Cut.{Cut}
-use Rattle.machine.specs.declared.Cut.the-variants.{Whole}
 use Rattle.machine.specs.declared.Answer.the-variants.{Refused}
 use Rattle.machine.specs.Boards.{freshBoard, blankBoard}
 use Rattle.machine.specs.Soundness.{isSound}
-use Rattle.machine.specs.Calls.{Cause, cause, judged, starting}
-use Rattle.machine.specs.ByMask.{firstCause, startCauses, cutCauses, refusing, taken}
+use Rattle.steps.specs.Causes.{Cause, cause, firstCause}
+use Rattle.machine.specs.Calls.{judged, starting}
+use Rattle.machine.specs.ByMask.{startCauses, refusing, taken}
 
 -- the numbers of causes are not 0
 abbrev pub Numbered : List Cause → Type 0
@@ -40,11 +38,6 @@ judged-first (c ∷ l) r back taken d = elim (test (c .applies)) [
   | inl t ↦ rw t
   | inr f ↦ rw f (judged-first l r back taken (λ e. d (rw f e)))
 ]
-
--- what is not cut has no cause
-pub whole-cut : (f down sends : ℕ) (cut : Cut) → cut ≡ Whole → firstCause (cutCauses f down sends cut) ≡ 0
-unfolding firstCause
-whole-cut f down sends cut e = rw (e, le-ltb sends 0 (omega arith))
 
 -- ---- lists of causes in three parts
 

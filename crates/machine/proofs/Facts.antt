@@ -6,14 +6,13 @@ use mathlib.Core.Logic.{inl, inr}
 use mathlib.Core.Bool.{Bool, true, _&&_, _||_}
 use native.Mathlib.Omega.{arith}
 use lib.Dec.{ltb, leb}
-use lib.ListN.{length, getD}
+use lib.ListN.{length}
 use borrow.Author.Tests.{ltb-true, leb-true, leb-false}
 use Rattle.sets.specs.Truth.{test, and-left, and-right, or-neither}
 use Rattle.sets.specs.Masks.{hasBit}
 use Rattle.sets.specs.Sets.{capacity}
 use Rattle.posting.specs.declared.Posting.{Posting}
 use Rattle.posting.specs.Kinds.{fieldsOk}
-use Rattle.posting.specs.Conflicts.{offered}
 use Rattle.posting.specs.ConflictLaws.{offered-below}
 use Rattle.site.specs.declared.Setup.{Setup}
 use Rattle.site.specs.Sites.{sites}
@@ -22,9 +21,9 @@ use Rattle.site.specs.Steps.{ownerOf}
 use Rattle.flight.specs.declared.Flight.{Flight}
 use Rattle.flight.specs.Flights.{cells, isPair, isCell, receiversIn, messageIn, inFlight}
 use Rattle.machine.specs.declared.Board.{Board}
-use Rattle.machine.specs.Boards.{siteAt, loggedAt}
+use Rattle.machine.specs.Boards.{loggedAt}
 use Rattle.machine.specs.Soundness.{setupOk, isSound}
-use Rattle.machine.specs.ByMask.{firstCause, siteCauses, messageCauses, offerCauses}
+use Rattle.steps.specs.Causes.{firstCause, siteCauses, messageCauses, offerCauses}
 use Rattle.machine.proofs.SoundFacts.{of-all, Sound}
 use Rattle.machine.proofs.SoundTest.{sound-facts}
 
@@ -109,3 +108,11 @@ offer-room posting count why e z = elim (test (fieldsOk posting)) [
   ]
   | inr f ↦ let k : why ≡ 9 = rw f at e in absurd (omega (arith, k, z))
 ]
+
+-- a site that may act has a place
+pub acting : (b : Board) → isSound b ≡ true → length (b .flight .masks) ≡ cells → (p why : ℕ)
+    → why ≡ firstCause (siteCauses (b .setup .n) (b .down) p) → why ≡ 0 → p < 7
+acting b sound long p why tested z =
+    let sites-few = few b long sound in
+    let there = site-there (b .setup .n) (b .down) p why tested z in
+    omega (arith, there, sites-few)

@@ -1,42 +1,39 @@
 -- What each return of a call's code gives is what Calls says, from the numbers that its tests gave: one law for each return.
 -- Rests on Causes, Placed and Facts. Assumes nothing.
-use Prim.Native.Nat.{ℕ, _<_, _≤_, _^_}
+use Prim.Native.Nat.{ℕ, _<_, _≤_}
 use mathlib.Core.Path.{_≡_, refl, sym, ap, _∙_}
-use mathlib.Core.Logic.{inl, inr, _≢_}
-use mathlib.Core.Bool.{Bool, true, false, cond, not, _&&_, _||_}
-use mathlib.Core.List.{List, [], _∷_, _++_, append-nil}
+use mathlib.Core.Logic.{_≢_}
+use mathlib.Core.Bool.{true, false, not}
+use mathlib.Core.List.{List, [], _++_}
 use native.Mathlib.Omega.{arith}
-use lib.Dec.{eqb, ltb, leb}
 use lib.ListN.{length}
 use lib.Count.{ones}
 use borrow.Author.Tests.{le-leb, lt-leb}
 use Rattle.sets.specs.declared.Set.{Set}
-use Rattle.sets.specs.Sets.{capacity, has, without}
+use Rattle.sets.specs.Sets.{has, without}
 use Rattle.posting.specs.declared.Posting.{Posting}
 use Rattle.posting.specs.declared.Record.{Record}
-use Rattle.posting.specs.Kinds.{fieldsOk}
 use Rattle.posting.specs.Records.{append}
-use Rattle.site.specs.declared.Site.{Site}
 use Rattle.site.specs.declared.Stepped.{Stepped}
-use Rattle.site.specs.Sites.{sites, plus, siteDelivered}
+use Rattle.site.specs.Sites.{sites, plus}
 use Rattle.site.specs.Sends.{Step}
-use Rattle.site.specs.Steps.{ownerOf, onOffer, onEntry}
-use Rattle.site.specs.ByMask.{stepOf, offerByMask, readSite, deliveringEntry}
+use Rattle.site.specs.Steps.{onOffer}
+use Rattle.site.specs.ByMask.{stepOf, offerByMask}
 use Rattle.site.specs.ByMaskLaws.{offer-is}
 use Rattle.site.proofs.Fits.{offer-fits}
-use Rattle.flight.specs.Flights.{cells, inFlight, takingOut}
 use Rattle.machine.specs.declared.Board.{Board}
-use Rattle.machine.specs.declared.Cut.{Cut}
-use Rattle.machine.specs.declared.Cut.the-variants.{Whole, After}
+use Rattle.steps.specs.declared.Cut.{Cut}
 use Rattle.machine.specs.declared.Outcome.{Outcome}
-use Rattle.machine.specs.declared.Answer.the-variants.{Done, Offered, Refused}
-use Rattle.machine.specs.Boards.{siteAt, tallyAt, entryAt, loggedAt, isDown, tableWith, boardTable, boardFlight, boardDown, boardPool}
+use Rattle.machine.specs.declared.Answer.the-variants.{Offered}
+use Rattle.machine.specs.Boards.{siteAt, tallyAt, boardTable, boardDown, boardPool}
+use Rattle.posting.specs.Conflicts.{tableWith}
 use Rattle.machine.specs.Soundness.{isSound}
-use Rattle.machine.specs.Calls.{Cause, cause, judged, carriedOut, receiptOf, crashesSpent, isCut, cutAfter, noSuchSite, offering, receiving, ordering, reading, crashing}
-use Rattle.machine.specs.ByMask.{firstCause, siteCauses, messageCauses, offerCauses, cutCauses, refusing, taken}
+use Rattle.steps.specs.Causes.{Cause, firstCause, siteCauses, offerCauses, cutCauses}
+use Rattle.machine.specs.Calls.{judged, carriedOut, crashesSpent, offering, ordering, crashing}
+use Rattle.machine.specs.ByMask.{refusing, taken}
 use Rattle.machine.proofs.Causes.{Numbered, unsound, stops, goes-on, passes, one-cause, one-applies, one-passes}
-use Rattle.machine.proofs.Placed.{sends-length, receipt, receipt-fits, receipt-is, boardRead, read-whole, read-cut}
-use Rattle.machine.proofs.Facts.{few, message-owner, Placed, message-placed}
+use Rattle.machine.proofs.Placed.{sends-length}
+use Rattle.machine.proofs.Facts.{few}
 
 -- ---- order and crash
 

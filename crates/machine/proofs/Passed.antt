@@ -1,7 +1,7 @@
 -- A receipt taken whole by straight code on a board in place: from the results of its calls, the board that the step leaves.
 -- Rests on Placed. Assumes nothing.
 use Prim.Native.Nat.{ℕ}
-use mathlib.Core.Path.{_≡_, sym, _∙_}
+use mathlib.Core.Path.{_≡_, _∙_}
 use mathlib.Core.Bool.{Bool}
 use mathlib.Core.List.{List}
 use Rattle.sets.specs.declared.Set.{Set}
@@ -12,7 +12,8 @@ use Rattle.site.specs.declared.Stepped.{Stepped}
 use Rattle.flight.specs.Flights.{goodTo, carriedBy, sendingTo, takingFrom, goodSent, goodTaken, setSent, setTaken, takingOut}
 use Rattle.machine.specs.declared.Board.{Board}
 use Rattle.machine.specs.Boards.{siteAt, tallyAt, entryAt, boardFlight}
-use Rattle.machine.specs.ByMask.{receiptByMask, settled, enters, entered, placed}
+use Rattle.steps.specs.ByMask.{receiptByMask, settled, enters, entered}
+use Rattle.machine.specs.ByMask.{placed}
 use Rattle.machine.proofs.Placed.{boardParts, placed-law, receipt, receipt-law}
 
 pub passed-law :

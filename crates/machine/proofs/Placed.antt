@@ -2,36 +2,36 @@
 -- Rests on Sent, on the laws of site. Assumes nothing.
 use Prim.Native.Nat.{ℕ, _^_, _<_, _≤_}
 use mathlib.Core.Path.{_≡_, refl, sym, ap, _∙_}
-use mathlib.Core.Logic.{inl, inr}
 use mathlib.Core.Bool.{Bool, true, false, cond}
-use mathlib.Core.List.{List, [], _∷_}
+use mathlib.Core.List.{List}
 use native.Mathlib.Omega.{arith}
 use lib.Dec.{eqb}
 use lib.ListN.{length, take, set}
 use lib.Seq.{set-getD, take-nil}
 use lib.Count.{ones}
 use Rattle.sets.specs.declared.Set.{Set}
-use Rattle.sets.specs.Truth.{test}
 use Rattle.sets.specs.Masks.{hasBit}
 use Rattle.sets.specs.Sets.{capacity, withIf}
-use Rattle.site.specs.declared.Setup.{Setup}
 use Rattle.site.specs.declared.Site.{Site}
 use Rattle.site.specs.declared.Tally.{Tally}
+use Rattle.site.specs.declared.Sends.{Sends}
 use Rattle.site.specs.declared.Stepped.{Stepped}
 use Rattle.site.specs.Sites.{sites, noTally, plus, siteDelivered}
 use Rattle.site.specs.Sends.{FIRST, SECOND, THIRD, Step}
 use Rattle.site.specs.Steps.{ownerOf, onFirst, onSecond, onThird, onDeliver, onEntry}
-use Rattle.site.specs.ByMask.{firstSites, sendOf, sendsOf, toMask, stepOf, readSite, deliveringEntry, firstByMask, secondByMask, thirdByMask, deliverByMask}
-use Rattle.site.specs.ByMaskLaws.{first-is, second-is, third-is, deliver-is, delivers-is, entry-is, entry-delivers-is}
+use Rattle.site.specs.ByMask.{sendOf, sendsOf, stepOf, readSite, deliveringEntry, firstByMask, secondByMask, thirdByMask, deliverByMask}
+use Rattle.site.specs.ByMaskLaws.{only-site, first-is, second-is, third-is, deliver-is, delivers-is, entry-is, entry-delivers-is}
 use Rattle.site.proofs.Firsts.{mask-length, first-fits, first-take}
 use Rattle.site.proofs.Fits as fits
 use Rattle.flight.specs.Flights.{goodTo, carriedBy, sendingAll, flightOf, sendingTo, goodSent, setSent, sendingMask}
 use Rattle.machine.specs.declared.Board.{Board}
-use Rattle.machine.specs.declared.Cut.{Cut}
-use Rattle.machine.specs.declared.Cut.the-variants.{Whole, After}
+use Rattle.steps.specs.declared.Cut.{Cut}
+use Rattle.steps.specs.declared.Cut.the-variants.{Whole, After}
 use Rattle.machine.specs.Boards.{siteAt, tallyAt, entryAt, boardDown}
 use Rattle.machine.specs.Calls.{carriedOut, receiptOf, pooling, entering}
-use Rattle.machine.specs.ByMask.{receiptByMask, settled, cutStep, enters, entered, placed}
+use Rattle.steps.specs.Cuts.{cutTo, sitesTo, settledTo, entryTo, downAfter}
+use Rattle.steps.specs.ByMask.{receiptByMask, settled, cutStep, enters, entered}
+use Rattle.machine.specs.ByMask.{placed}
 use Rattle.machine.proofs.Sent.{sent-mask, pool-mask, entry-mask}
 
 module _ (b : Board) (p m : ℕ) (s : Stepped) (fit : s .sends .to < 2 ^ sites) where
@@ -56,15 +56,6 @@ module _ (b : Board) (p m : ℕ) (s : Stepped) (fit : s .sends .to < 2 ^ sites) 
       let x = cutStep s j .sends in
       let first = first-fits sites (s .sends .to) j (omega arith) in
       rw (sym (cut-sends j), sent-mask m (x .form) (x .good) (x .carried) (x .to) (b .flight) p first, pool-mask m x first (b .pool), entry-mask m x first (b .entries))
-
-  pub whole-law : (cut : Cut) → cut ≡ Whole → placed b p m s ≡ carriedOut b p m (stepOf m s) cut
-  whole-law cut e = rw e (sym whole-is)
-
-  pub cut-law : (cut : Cut) (j : ℕ) (after : Board) (down : ℕ) → cut ≡ After j → after ≡ placed b p m (cutStep s j) → down ≡ plus (after .down) p
-      → boardDown after down ≡ carriedOut b p m (stepOf m s) cut
-  cut-law cut j after down e a d =
-      let same : after .down ≡ b .down = rw a (unfold placed in refl) in
-      rw (e, d, same, a) (sym (cut-is j))
 
 -- the same board from the results of the code's calls
 module _ (b : Board) (p m : ℕ) (s : Stepped) where
@@ -91,6 +82,47 @@ module _ (b : Board) (p m : ℕ) (s : Stepped) where
       → boardParts site masks good carried pool entry ≡ placed b p m s
   unfolding placed sendingMask
   placed-law site masks good carried so pool entry e0 e1 e2 e3 e4 e5 e6 = rw (e6, e5, e4, e3, e2, e1, e0)
+
+-- ---- a step whole or cut
+
+-- a step carried out as far as its cut lets it go
+pub carried-law : (b : Board) (p m : ℕ) (s : Stepped) → s .sends .to < 2 ^ sites → p < 7 → (cut : Cut)
+    → boardDown (placed b p m (cutTo s cut)) (downAfter (b .down) p cut) ≡ carriedOut b p m (stepOf m s) cut
+carried-law b p m s fit h Whole = unfold placed in refl ∙ sym (whole-is b p m s fit)
+carried-law b p m s fit h (After j) = rw (only-site p h) (sym (cut-is b p m s fit j))
+
+-- the step with a mask of receivers and what is delivered worked out apart: it is the step cut
+abbrev pub partTo : Stepped → ℕ → Cut → Stepped
+partTo s reached cut =
+    let sends : Sends = record { form = s .sends .form; to = reached; good = s .sends .good; carried = s .sends .carried } in
+    record { site = s .site; tally = s .tally; sends = sends; delivers = cutTo s cut .delivers }
+
+part-is : (s : Stepped) (reached : ℕ) (cut : Cut) → reached ≡ sitesTo (s .sends .to) cut → partTo s reached cut ≡ cutTo s cut
+part-is s reached Whole e = rw e refl
+part-is s reached (After j) e = rw e refl
+
+part-settled : (s : Stepped) (reached m : ℕ) (cut : Cut) → settledTo (s .site) (s .delivers) m cut ≡ settled (partTo s reached cut) m
+part-settled s reached m Whole = refl
+part-settled s reached m (After j) = refl
+
+-- the board from the results of the code's calls
+module _ (b : Board) (p m : ℕ) (s : Stepped) (fit : s .sends .to < 2 ^ sites) (h : p < 7) (cut : Cut) where
+  pub carried-parts :
+      (reached : ℕ) (site : Site) (masks good carried : List ℕ) (so : Bool) (pool entry : Set) (down : ℕ)
+      → let part = partTo s reached cut in let x = part .sends in
+      reached ≡ sitesTo (s .sends .to) cut → site ≡ settledTo (s .site) (s .delivers) m cut
+      → masks ≡ sendingTo (b .flight .masks) (x .form) m p (x .to)
+      → good ≡ goodSent (b .flight .good) (x .form) m p (x .to) (x .good)
+      → carried ≡ setSent (b .flight .carried) (x .form) m p (x .to) (x .carried)
+      → so ≡ enters x → pool ≡ withIf (b .pool) m so → entry ≡ entered (entryAt b m) x → down ≡ downAfter (b .down) p cut
+      → boardDown (boardParts b p m part site masks good carried pool entry) down ≡ carriedOut b p m (stepOf m s) cut
+  carried-parts reached site masks good carried so pool entry down e e0 e1 e2 e3 e4 e5 e6 dn =
+      ap (λ (y : Board). boardDown y down) (parts ∙ ap (λ (y : Stepped). placed b p m y) (part-is s reached cut e))
+      ∙ ap (λ (k : ℕ). boardDown (placed b p m (cutTo s cut)) k) dn
+      ∙ carried-law b p m s fit h cut
+    where
+      parts : let part = partTo s reached cut in boardParts b p m part site masks good carried pool entry ≡ placed b p m part
+      parts = placed-law b p m (partTo s reached cut) site masks good carried so pool entry (e0 ∙ part-settled s reached m cut) e1 e2 e3 e4 e5 e6
 
 -- ---- the step of a receipt
 
@@ -181,3 +213,12 @@ module _ (b : Board) (p m : ℕ) (carried : Set) (place : siteAt b p .place < ca
   pub read-cut : (j : ℕ) → carriedOut b p m step (After j) ≡ boardRead b p (readSite (siteAt b p)) (plus (b .down) p)
   unfolding carriedOut sendingAll pooling entering onEntry
   read-cut j = rw (take-nil j, entry-is (b .setup) (b .table) (siteAt b p) (tallyAt b m) m carried place, set-getD (b .tallies) m noTally)
+
+-- the site moves on, and delivers if its step is not cut
+pub entry-carried :
+    (b : Board) (p m : ℕ) (carried : Set) → siteAt b p .place < capacity → p < 7 → (cut : Cut) (next after : Site) (down : ℕ)
+    → next ≡ readSite (siteAt b p) → after ≡ entryTo next carried m cut → down ≡ downAfter (b .down) p cut
+    → boardRead b p after down ≡ carriedOut b p m (onEntry (siteAt b p) (tallyAt b m) m carried) cut
+entry-carried b p m carried place h Whole next after down e0 e1 e2 = rw (e2, e1, e0) (sym (read-whole b p m carried place))
+entry-carried b p m carried place h (After j) next after down e0 e1 e2 =
+    rw (e2, e1, e0, only-site p h) (sym (read-cut b p m carried place j))

@@ -1,41 +1,34 @@
 -- What each return of receive's and read's code gives is what Calls says: one law for each return.
 -- Rests on Causes, Placed and Facts. Assumes nothing.
-use Prim.Native.Nat.{ℕ, _<_, _≤_, _^_}
+use Prim.Native.Nat.{ℕ, _<_, _≤_}
 use mathlib.Core.Path.{_≡_, refl, sym, ap, _∙_}
-use mathlib.Core.Logic.{inl, inr, _≢_}
-use mathlib.Core.Bool.{Bool, true, false, cond, not, _&&_, _||_}
-use mathlib.Core.List.{List, [], _∷_, _++_, append-nil}
+use mathlib.Core.Logic.{_≢_}
+use mathlib.Core.Bool.{true, false, not}
+use mathlib.Core.List.{List, [], _++_}
 use native.Mathlib.Omega.{arith}
-use lib.Dec.{eqb, ltb, leb}
+use lib.Dec.{leb}
 use lib.ListN.{length}
 use lib.Count.{ones}
 use borrow.Author.Tests.{le-leb, lt-leb}
-use Rattle.sets.specs.declared.Set.{Set}
-use Rattle.sets.specs.Sets.{capacity, has, without}
-use Rattle.posting.specs.declared.Posting.{Posting}
-use Rattle.posting.specs.Kinds.{fieldsOk}
-use Rattle.posting.specs.Records.{append}
+use Rattle.sets.specs.Sets.{capacity}
 use Rattle.site.specs.declared.Site.{Site}
 use Rattle.site.specs.declared.Stepped.{Stepped}
-use Rattle.site.specs.Sites.{sites, plus, siteDelivered}
 use Rattle.site.specs.Sends.{Step}
-use Rattle.site.specs.Steps.{ownerOf, onOffer, onEntry}
-use Rattle.site.specs.ByMask.{stepOf, offerByMask, readSite, deliveringEntry}
-use Rattle.site.specs.ByMaskLaws.{offer-is}
-use Rattle.site.proofs.Fits.{offer-fits}
+use Rattle.site.specs.Steps.{onEntry}
+use Rattle.site.specs.ByMask.{stepOf, readSite}
 use Rattle.flight.specs.Flights.{cells, inFlight, flightOf, takingFrom, goodTaken, setTaken, takingOut}
 use Rattle.machine.specs.declared.Board.{Board}
-use Rattle.machine.specs.declared.Cut.{Cut}
-use Rattle.machine.specs.declared.Cut.the-variants.{Whole, After}
+use Rattle.steps.specs.declared.Cut.{Cut}
 use Rattle.machine.specs.declared.Outcome.{Outcome}
-use Rattle.machine.specs.declared.Answer.the-variants.{Done, Offered, Refused}
-use Rattle.machine.specs.Boards.{siteAt, tallyAt, entryAt, loggedAt, isDown, tableWith, boardTable, boardFlight, boardDown, boardPool}
+use Rattle.machine.specs.Boards.{siteAt, tallyAt, entryAt, loggedAt, boardFlight}
 use Rattle.machine.specs.Soundness.{isSound}
-use Rattle.machine.specs.Calls.{Cause, cause, judged, carriedOut, receiptOf, crashesSpent, isCut, cutAfter, noSuchSite, offering, receiving, ordering, reading, crashing}
-use Rattle.machine.specs.ByMask.{firstCause, siteCauses, messageCauses, offerCauses, cutCauses, refusing, taken}
-use Rattle.machine.proofs.Causes.{Numbered, unsound, stops, goes-on, passes, one-cause, one-applies, one-passes}
-use Rattle.machine.proofs.Placed.{sends-length, receipt, receipt-fits, receipt-is, boardRead, read-whole, read-cut}
-use Rattle.machine.proofs.Facts.{few, message-owner, Placed, message-placed}
+use Rattle.steps.specs.Cuts.{entryTo, downAfter}
+use Rattle.steps.specs.Causes.{Cause, firstCause, siteCauses, messageCauses, cutCauses}
+use Rattle.machine.specs.Calls.{judged, carriedOut, receiptOf, receiving, reading}
+use Rattle.machine.specs.ByMask.{refusing, taken}
+use Rattle.machine.proofs.Causes.{unsound, stops, goes-on, passes, one-cause, one-applies, one-passes}
+use Rattle.machine.proofs.Placed.{sends-length, receipt, receipt-fits, receipt-is, boardRead, entry-carried}
+use Rattle.machine.proofs.Facts.{few, message-owner, message-placed}
 
 -- ---- receive
 
@@ -162,10 +155,6 @@ module _ (b : Board) (sound : isSound b ≡ true) (site : ℕ) (cut : Cut)
         placed-below : siteAt b site .place < capacity
         placed-below = omega (arith, within, left)
 
-        pub read-whole-law : (after : Site) → cut ≡ Whole → after ≡ siteDelivered next (deliveringEntry (next .delivered) (entryAt b logged) logged)
-            → taken (boardRead b site after (b .down)) ≡ reading b site cut
-        read-whole-law after e d = read-done x _ (rw (e, d, stepped) (sym (read-whole b site logged (entryAt b logged) placed-below)))
-
-        pub read-cut-law : (j down : ℕ) → cut ≡ After j → down ≡ plus (b .down) site
-            → taken (boardRead b site next down) ≡ reading b site cut
-        read-cut-law j down e d = read-done x _ (rw (e, d, stepped) (sym (read-cut b site logged (entryAt b logged) placed-below j)))
+        pub read-law : site < 7 → (after : Site) (down : ℕ) → after ≡ entryTo next (entryAt b logged) logged cut → down ≡ downAfter (b .down) site cut
+            → taken (boardRead b site after down) ≡ reading b site cut
+        read-law h after down e d = read-done x _ (entry-carried b site logged (entryAt b logged) placed-below h cut next after down stepped e d)

@@ -2,35 +2,33 @@
 -- Rests on Calls and ByMask, on the laws of flight and site. Assumes nothing.
 use Prim.Native.Nat.{ℕ, zero, suc, _/_, _%_, _^_, _<_, _≤_}
 use mathlib.Core.Path.{_≡_, refl, sym, ap, _∙_}
-use mathlib.Core.Logic.{inl, inr, _≢_}
-use mathlib.Core.Bool.{Bool, true, false, cond, not, _&&_, _||_, or-false}
-use mathlib.Core.List.{List, [], _∷_, _++_, append-nil}
+use mathlib.Core.Logic.{_≢_}
+use mathlib.Core.Bool.{Bool, true, false, cond, not, _&&_, or-false}
+use mathlib.Core.List.{List, [], _∷_, _++_}
 use native.Mathlib.Omega.{arith}
 use native.Mathlib.Decide.{ℕ-discrete, decLt}
 use lib.Dec.{eqb, ltb}
 use lib.ListN.{length, getD, set}
 use lib.Seq.{set-set, set-getD, set-out, getD-set-same}
-use lib.Bits.{bitOr, or-lt, or-zero-r, or-self, or-add-and, and-le-l, and-le-r}
+use lib.Bits.{bitOr, or-lt, or-zero-r, or-self, or-add-and, and-le-l}
 use lib.Pow.{pow-pos}
-use borrow.Author.Tests.{eqb-true, eqb-false, eq-eqb, ne-eqb, ltb-true, lt-ltb, le-ltb}
+use borrow.Author.Tests.{eq-eqb, ne-eqb, lt-ltb, le-ltb}
 use Rattle.sets.specs.declared.Set.{Set}
-use Rattle.sets.specs.Truth.{test}
 use Rattle.sets.specs.Masks.{hasBit}
 use Rattle.sets.specs.MaskLaws.{has-bit-above, has-bit-or, has-bit-pow, has-bit-zero, bits-ext}
 use Rattle.sets.specs.Words.{insert, insertIf}
-use Rattle.sets.specs.WordLaws.{insert-past}
 use Rattle.sets.specs.Sets.{ofWords, with, withIf}
 use Rattle.site.specs.declared.Sends.{Sends}
 use Rattle.site.specs.Sites.{sites, noSet}
 use Rattle.site.specs.Sends.{FIRST, SECOND, THIRD, DELIVER, forms, Send, first, second, third, deliver, entry}
 use Rattle.site.specs.ByMask.{sendOf, toMask, sendsOf}
 use Rattle.flight.specs.declared.Flight.{Flight}
-use Rattle.flight.specs.Flights.{pairs, cells, cellAt, flightOf, sendingTo, sending, sendingAll, sendingMask}
+use Rattle.flight.specs.Flights.{cellAt, sendingTo, sending, sendingAll, sendingMask}
 use Rattle.flight.specs.CellLaws.{bit-or-assoc}
 use Rattle.flight.specs.SendLaws.{all-append}
 use Rattle.flight.specs.BroadcastLaws.{mask-none, mask-twice, Broadcast}
 use Rattle.machine.specs.Calls.{pooling, entering}
-use Rattle.machine.specs.ByMask.{enters, entered}
+use Rattle.steps.specs.ByMask.{enters, entered}
 
 -- ---- the sites of a mask below n
 

@@ -1,13 +1,11 @@
 -- What holds of every value of the board's types: the lengths of its arrays, and words below 2^64. It stands apart from soundness.
 -- Rests on machine's definitions. Assumes nothing.
-use Prim.Native.Nat.{ℕ, _<_, _^_, _*_}
+use Prim.Native.Nat.{ℕ, _<_}
 use mathlib.Core.Path.{_≡_}
-use mathlib.Core.List.{List}
-use lib.ListN.{length, getD}
-use Rattle.sets.specs.Sets.{capacity, words, Shape}
+use lib.ListN.{length}
+use Rattle.sets.specs.Sets.{capacity, Shape}
 use Rattle.posting.specs.RecordLaws.{Places}
 use Rattle.site.specs.declared.Site.{Site}
-use Rattle.site.specs.declared.Tally.{Tally}
 use Rattle.site.specs.Sites.{sites}
 use Rattle.flight.specs.Flights.{Shape as FlightShape}
 use Rattle.machine.specs.declared.Board.{Board}

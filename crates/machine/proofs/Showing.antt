@@ -29,7 +29,7 @@ use Rattle.machine.specs.declared.Board.{Board}
 use Rattle.machine.specs.declared.Answer.the-variants.{Done, Refused}
 use Rattle.machine.specs.Boards.{siteAt}
 use Rattle.machine.specs.Soundness.{isSound}
-use Rattle.machine.specs.ByMask.{firstCause, siteCauses}
+use Rattle.steps.specs.Causes.{firstCause, siteCauses}
 use Rattle.machine.specs.Figures.{recordOf, figuresOf, figuresOfAll, shown, showing, showingAll}
 use Rattle.machine.proofs.SoundTest.{sound-facts}
 

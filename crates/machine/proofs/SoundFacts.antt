@@ -1,30 +1,29 @@
 -- Soundness as facts, one for each cause of refusal 6, and that the test isSound says just these.
 -- Rests on Shapes and machine's definitions. Assumes nothing.
-use Prim.Native.Nat.{ℕ, zero, suc, _+_, _*_, _/_, _%_, _^_, _<_, _≤_}
-use mathlib.Core.Path.{_≡_, refl, sym, ap, _∙_}
+use Prim.Native.Nat.{ℕ, _^_, _<_, _≤_}
+use mathlib.Core.Path.{_≡_, refl, sym, _∙_}
 use mathlib.Core.Logic.{_⊎_, inl, inr}
-use mathlib.Core.Bool.{Bool, true, false, not, _&&_, _||_}
+use mathlib.Core.Bool.{Bool, true, false, _&&_, _||_}
 use mathlib.Core.List.{List, [], _∷_}
 use native.Mathlib.Omega.{arith}
-use lib.Dec.{eqb, ltb, leb}
-use lib.ListN.{length, getD}
+use lib.Dec.{eqb, ltb}
+use lib.ListN.{getD}
 use lib.Pow.{pow-pos}
 use borrow.Author.Tests.{ltb-true, lt-ltb, leb-true, le-leb, eqb-true, eq-eqb}
 use Rattle.sets.specs.declared.Set.{Set}
-use Rattle.sets.specs.Truth.{test, never, not-so, and-left, and-right, and-intro, or-cases, or-left, or-right, not-flips}
-use Rattle.sets.specs.Below.{allBelow}
+use Rattle.sets.specs.Truth.{test, never, not-so, and-left, and-right, and-intro, or-cases, or-left, or-right}
+use Rattle.sets.specs.Below.{allOf}
 use Rattle.sets.specs.BelowLaws.{all-at, all-from}
 use Rattle.sets.specs.Masks.{hasBit}
-use Rattle.sets.specs.MaskLaws.{has-bit-above, has-bit-zero, has-bit-pow, bits-ext}
+use Rattle.sets.specs.MaskLaws.{has-bit-zero, bits-ext}
 use Rattle.sets.specs.Numbers.{listed, distinct}
-use Rattle.sets.specs.Words.{member, collect}
-use Rattle.sets.specs.WordLaws.{member-collect, member-below, collect-shape, subset-member, member-subset, empty-member, member-none}
-use Rattle.sets.specs.Sets.{words, capacity, has, subset, isEmptySet, setOf, Shape}
+use Rattle.sets.specs.WordLaws.{member-collect, subset-member, member-subset, empty-member, member-none}
+use Rattle.sets.specs.Sets.{words, capacity, has, subset, isEmptySet, Shape}
 use Rattle.posting.specs.declared.Record.{Record}
 use Rattle.posting.specs.declared.Table.{Table}
 use Rattle.posting.specs.Kinds.{fieldsOk}
 use Rattle.posting.specs.Conflicts.{row, offered}
-use Rattle.posting.specs.ConflictLaws.{offered-below, below-offered}
+use Rattle.posting.specs.ConflictLaws.{offered-below}
 use Rattle.posting.specs.Records.{numbersOf}
 use Rattle.site.specs.declared.Site.{Site}
 use Rattle.site.specs.declared.Tally.{Tally}
@@ -34,8 +33,8 @@ use Rattle.site.specs.Steps.{ownerOf}
 use Rattle.flight.specs.Flights.{receiversIn, carriedBy}
 use Rattle.machine.specs.declared.Board.{Board}
 use Rattle.machine.specs.Boards.{siteAt, tallyAt, entryAt}
-use Rattle.machine.specs.Soundness.{allOf, setupOk, rowOk, offeredSet, sitesBelow, maskOk, recordOk, siteOk, tallyOk, cellOk, cellsOk, entryOk, isSound}
-use Rattle.machine.proofs.Shapes.{SiteShape, BoardShape}
+use Rattle.machine.specs.Soundness.{setupOk, offeredSet, maskOk, recordOk, siteOk, tallyOk}
+use Rattle.machine.proofs.Shapes.{SiteShape}
 
 -- ---- tests of a list, as facts
 

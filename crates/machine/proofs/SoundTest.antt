@@ -1,7 +1,7 @@
 -- The test isSound says just the facts of Sound, on a board in shape.
 -- Rests on Sound. Assumes nothing.
 use Prim.Native.Nat.{ℕ, zero, suc, _+_, _*_, _/_, _%_, _^_, _<_, _≤_}
-use mathlib.Core.Path.{_≡_, refl, sym, ap, _∙_}
+use mathlib.Core.Path.{_≡_, refl, sym, _∙_}
 use mathlib.Core.Logic.{_⊎_, inl, inr}
 use mathlib.Core.Bool.{Bool, true, false, not, _&&_, _||_}
 use mathlib.Core.List.{List, [], _∷_}
@@ -13,14 +13,13 @@ use lib.ListN.{length, getD}
 use lib.Pow.{pow-pos, pow-lt}
 use borrow.Author.Tests.{ltb-true, lt-ltb, leb-true, le-leb, eqb-true, eq-eqb, ne-eqb}
 use Rattle.sets.specs.declared.Set.{Set}
-use Rattle.sets.specs.Truth.{test, never, not-so, and-left, and-right, and-intro, or-cases, or-left, or-right, or-neither, not-flips}
-use Rattle.sets.specs.Below.{allBelow}
+use Rattle.sets.specs.Truth.{test, never, not-so, and-left, and-right, and-intro, or-cases, or-left, or-right, not-flips}
+use Rattle.sets.specs.Below.{allBelow, allOf}
 use Rattle.sets.specs.BelowLaws.{all-at, all-from}
 use Rattle.sets.specs.Masks.{hasBit}
-use Rattle.sets.specs.MaskLaws.{has-bit-above, has-bit-zero, has-bit-pow, bits-ext}
+use Rattle.sets.specs.MaskLaws.{has-bit-zero, has-bit-pow, bits-ext}
 use Rattle.sets.specs.Numbers.{listed}
-use Rattle.sets.specs.Sets.{words, capacity, has, subset, Shape}
-use Rattle.posting.specs.declared.Table.{Table}
+use Rattle.sets.specs.Sets.{capacity, has, subset, Shape}
 use Rattle.posting.specs.Kinds.{fieldsOk}
 use Rattle.posting.specs.Conflicts.{row, offered}
 use Rattle.posting.specs.ConflictLaws.{offered-below, below-offered}
@@ -28,14 +27,14 @@ use Rattle.posting.specs.Records.{numbersOf}
 use Rattle.site.specs.Sites.{sites}
 use Rattle.site.specs.Sends.{THIRD, forms}
 use Rattle.site.specs.Steps.{ownerOf}
-use Rattle.flight.specs.Flights.{receiversIn, pairs, cells, cellAt, carriedBy}
+use Rattle.flight.specs.Flights.{receiversIn, cells, cellAt, carriedBy}
 use Rattle.flight.specs.CellLaws.{cell-in, cell-below}
 use Rattle.flight.specs.CarriedLaws.{set-shape-in}
 use Rattle.machine.specs.declared.Board.{Board}
 use Rattle.machine.specs.Boards.{siteAt, tallyAt, entryAt}
-use Rattle.machine.specs.Soundness.{allOf, setupOk, sitesOk, crashesOk, rowOk, offeredSet, siteOk, tallyOk, cellOk, cellsOk, entryOk, isSound}
+use Rattle.machine.specs.Soundness.{setupOk, rowOk, offeredSet, siteOk, tallyOk, cellOk, cellsOk, entryOk, isSound}
 use Rattle.machine.proofs.Shapes.{BoardShape}
-use Rattle.machine.proofs.SoundFacts.{AllTrue, of-all, to-all, Offers, CellSound, EntrySound, Sound, no-bits, set-facts, facts-set, record-facts, facts-record, site-facts, facts-site, tally-facts, facts-tally}
+use Rattle.machine.proofs.SoundFacts.{AllTrue, of-all, to-all, CellSound, EntrySound, Sound, no-bits, set-facts, facts-set, record-facts, facts-record, site-facts, facts-site, tally-facts, facts-tally}
 
 -- ---- cells, by number and by form, posting and sender
 

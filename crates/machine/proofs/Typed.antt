@@ -1,7 +1,7 @@
 -- What every value of the type Board is: its arrays have their lengths, its words are below 2 ^ 64. The checker tells it of each parameter.
 -- Rests on Shapes. Assumes nothing.
-use Prim.Native.Nat.{ℕ, zero, suc, _<_, _≤_, _^_}
-use mathlib.Core.Path.{_≡_, refl, sym, ap, _∙_}
+use Prim.Native.Nat.{ℕ, zero, suc, _<_}
+use mathlib.Core.Path.{_≡_, sym, _∙_}
 use mathlib.Core.List.{List, [], _∷_, map}
 use native.Mathlib.Omega.{arith}
 use lib.ListN.{length, length-map, getD, List·getD-map}

@@ -1,17 +1,16 @@
 -- A board's parts: the blank board, the board of an accepted start, and a board with some of its parts changed.
 -- Rests on the declared types of this crate, on flight, site, posting and sets.
-use Prim.Native.Nat.{ℕ, _+_}
+use Prim.Native.Nat.{ℕ}
 use mathlib.Core.Bool.{Bool, not, _&&_}
-use mathlib.Core.List.{List, []}
+use mathlib.Core.List.{List}
 use lib.Dec.{ltb}
 use lib.ListN.{getD, set, replicate}
 use Rattle.sets.specs.declared.Set.{Set}
 use Rattle.sets.specs.Masks.{hasBit}
 use Rattle.sets.specs.Sets.{capacity, emptySet}
-use Rattle.posting.specs.declared.Posting.{Posting}
 use Rattle.posting.specs.declared.Table.{Table}
 use Rattle.posting.specs.declared.Record.{Record}
-use Rattle.posting.specs.Conflicts.{noPosting}
+use Rattle.posting.specs.Conflicts.{emptyTable}
 use Rattle.posting.specs.Records.{emptyRecord}
 use Rattle.site.specs.declared.Setup.{Setup}
 use Rattle.site.specs.declared.Site.{Site}
@@ -22,9 +21,6 @@ use Rattle.flight.specs.Flights.{emptyFlight}
 use Rattle.machine.specs.declared.Board.{Board}
 
 -- ---- boards to begin with
-
-abbrev pub emptyTable : Table
-emptyTable = record { count = 0; rows = replicate capacity noPosting }
 
 -- nothing offered, nothing sent, all sites up
 abbrev pub freshBoard : Setup → Board
@@ -69,10 +65,6 @@ abbrev pub isUp : Board → ℕ → Bool
 isUp b p = ltb p (b .setup .n) && not (isDown b p)
 
 -- ---- a board with some of its parts changed
-
--- a posting more in the table
-abbrev pub tableWith : Table → Posting → Table
-tableWith t p = record { count = t .count + 1; rows = set (t .rows) (t .count) p }
 
 abbrev pub boardTable : Board → Table → Board
 boardTable b table =

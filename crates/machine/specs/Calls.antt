@@ -1,7 +1,7 @@
 -- What each call does: the refusals, in rising number, the lowest that applies; and for an accepted call the step, whole or cut.
 -- Rests on Boards and Soundness, on flight, site, posting and sets.
-use Prim.Native.Nat.{ℕ, zero, suc, _+_, _-_, _*_, _/_, _%_, _^_}
-use mathlib.Core.Bool.{Bool, true, false, cond, not, _&&_, _||_}
+use Prim.Native.Nat.{ℕ}
+use mathlib.Core.Bool.{Bool, cond, not, _&&_, _||_}
 use mathlib.Core.List.{List, [], _∷_}
 use lib.Dec.{eqb, ltb, leb}
 use lib.ListN.{length, set, take}
@@ -14,16 +14,18 @@ use Rattle.posting.specs.Kinds.{fieldsOk, symmetric, hasFixedPairs}
 use Rattle.posting.specs.Records.{append}
 use Rattle.site.specs.declared.Setup.{Setup}
 use Rattle.site.specs.Sites.{plus}
-use Rattle.site.specs.Sends.{FIRST, SECOND, THIRD, DELIVER, Send, first, second, third, deliver, entry, Step}
+use Rattle.site.specs.Sends.{FIRST, SECOND, THIRD, Send, first, second, third, deliver, entry, Step}
 use Rattle.site.specs.Steps.{onOffer, onFirst, onSecond, onThird, onDeliver, onEntry, deliveredSite}
 use Rattle.flight.specs.Flights.{inFlight, goodTo, carriedBy, takingOut, sendingAll}
+use Rattle.steps.specs.Causes.{Cause, cause, isCut, cutAfter}
 use Rattle.machine.specs.declared.Board.{Board}
-use Rattle.machine.specs.declared.Cut.{Cut}
-use Rattle.machine.specs.declared.Cut.the-variants.{Whole, After}
+use Rattle.steps.specs.declared.Cut.{Cut}
+use Rattle.steps.specs.declared.Cut.the-variants.{Whole, After}
 use Rattle.machine.specs.declared.Answer.{Answer}
 use Rattle.machine.specs.declared.Answer.the-variants.{Done, Offered, Refused}
 use Rattle.machine.specs.declared.Outcome.{Outcome}
-use Rattle.machine.specs.Boards.{freshBoard, blankBoard, siteAt, tallyAt, entryAt, loggedAt, isDown, tableWith, boardTable, boardFlight, boardSite, boardDown, boardPool}
+use Rattle.machine.specs.Boards.{freshBoard, blankBoard, siteAt, tallyAt, entryAt, loggedAt, isDown, boardTable, boardFlight, boardSite, boardDown, boardPool}
+use Rattle.posting.specs.Conflicts.{tableWith}
 use Rattle.machine.specs.Soundness.{sitesOk, crashesOk, isSound}
 
 -- ---- answers
@@ -33,14 +35,6 @@ abbrev pub refusalOf : Answer → ℕ
 refusalOf Done = 0
 refusalOf (Offered m) = 0
 refusalOf (Refused k) = k
-
--- a cause of refusal: its number, and whether it applies
-pub record Cause : Type 0 where
-  pub number : ℕ
-  pub applies : Bool
-
-abbrev pub cause : ℕ → Bool → Cause
-cause number applies = record { number = number; applies = applies }
 
 -- the outcome: the first cause that applies refuses, and hands a board back; else what is accepted
 unfoldable pub judged : List Cause → Board → Outcome → Outcome
@@ -96,15 +90,6 @@ carriedOut b p m step (After j) = boardDown (sent (boardSite b p (step .site) m 
 -- one crash more would exceed f
 abbrev pub crashesSpent : Board → Bool
 crashesSpent b = leb (b .setup .f) (ones (b .down))
-
--- 14 and 15 of a cut
-abbrev pub isCut : Cut → Bool
-isCut Whole = false
-isCut (After j) = true
-
-abbrev pub cutAfter : Cut → ℕ
-cutAfter Whole = 0
-cutAfter (After j) = j
 
 -- a site number is n or more
 abbrev pub noSuchSite : Board → ℕ → Bool

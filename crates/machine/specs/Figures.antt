@@ -1,7 +1,7 @@
 -- The books of a site, and of all sites, up or down: showing figures from a site's record is no act.
 -- Rests on Boards, Soundness and books.
 use Prim.Native.Nat.{ℕ, zero, suc, _*_}
-use mathlib.Core.Bool.{Bool, cond, not}
+use mathlib.Core.Bool.{cond, not}
 use mathlib.Core.List.{List, [], _∷_, _++_}
 use lib.Dec.{ltb}
 use lib.IntN.{ℤ}
@@ -13,7 +13,8 @@ use Rattle.machine.specs.declared.Answer.{Answer}
 use Rattle.machine.specs.declared.Answer.the-variants.{Done, Refused}
 use Rattle.machine.specs.Boards.{siteAt}
 use Rattle.machine.specs.Soundness.{isSound}
-use Rattle.machine.specs.Calls.{Cause, cause, noSuchSite}
+use Rattle.steps.specs.Causes.{Cause, cause}
+use Rattle.machine.specs.Calls.{noSuchSite}
 
 -- the numbers of a site's record, in order
 abbrev pub recordOf : Board → ℕ → List ℕ

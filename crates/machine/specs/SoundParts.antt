@@ -1,155 +1,39 @@
--- The parts of the test for soundness, each over what it reads alone.
+-- The test for soundness, by the parts that soundness tests.
 -- Proof machinery: the contracts of src/sound.rt name these parts, and sound-parts says that they make up isSound, the definition in Soundness.
--- Rests on Soundness. Assumes nothing.
-use Prim.Native.Nat.{ℕ, zero, suc, _+_, _*_, _-_, _/_, _%_, _^_, _<_, _≤_}
+-- Rests on Soundness and on soundness. Assumes nothing.
+use Prim.Native.Nat.{ℕ, suc, _+_, _-_, _^_, _<_, _≤_}
 use mathlib.Core.Path.{_≡_, refl, sym, ap, ap₂, _∙_}
-use mathlib.Core.Bool.{Bool, true, false, not, _&&_, _||_, and-assoc, and-true}
+use mathlib.Core.Bool.{Bool, true, false, _&&_, and-true}
 use mathlib.Core.List.{List, [], _∷_}
 use native.Mathlib.Omega.{arith}
-use lib.Dec.{eqb, ltb, leb}
+use lib.Dec.{ltb, leb}
 use lib.ListN.{length, getD}
-use lib.Bits.{bitOr}
-use borrow.Author.Tests.{lt-ltb, leb-true}
+use borrow.Author.Tests.{leb-true}
 use Rattle.sets.specs.declared.Set.{Set}
 use Rattle.sets.specs.Truth.{and-left, and-right}
-use Rattle.sets.specs.Below.{allBelow}
-use Rattle.sets.specs.Numbers.{distinct}
-use Rattle.sets.specs.WordLaws.{member-collect}
-use Rattle.sets.specs.Sets.{words, capacity, has, subset, isEmptySet, setOf}
-use Rattle.posting.specs.declared.Posting.{Posting}
+use Rattle.sets.specs.Below.{allBelow, allOf}
+use Rattle.sets.specs.BelowLaws.{all-none, all-ext, all-shift}
+use Rattle.sets.specs.Sets.{capacity, has, subset, setOf}
 use Rattle.posting.specs.declared.Table.{Table}
 use Rattle.posting.specs.declared.Record.{Record}
-use Rattle.posting.specs.Kinds.{fieldsOk}
-use Rattle.posting.specs.Conflicts.{row, offered, offeredBy}
-use Rattle.posting.specs.Records.{numbersOf, contains}
+use Rattle.posting.specs.Conflicts.{offered}
+use Rattle.posting.specs.Records.{contains}
 use Rattle.site.specs.declared.Setup.{Setup}
 use Rattle.site.specs.declared.Site.{Site}
 use Rattle.site.specs.declared.Tally.{Tally}
-use Rattle.site.specs.Sites.{sites, noSet, noSite, noTally}
-use Rattle.site.specs.Sends.{THIRD}
+use Rattle.site.specs.Sites.{sites}
 use Rattle.site.specs.Steps.{ownerOf}
-use Rattle.flight.specs.Flights.{cells, setIn}
+use Rattle.flight.specs.Flights.{cells}
+use Rattle.soundness.specs.Parts.{allOffered, rowSound, tableSound, maskSound, masksSound, recordSound, setsSound, siteSound, sitesSound, tallySound, talliesSound, thirdSound, cellSound, cellSoundAt, cellsSound, finishedSet, entrySound, entriesSound, poolSound, has-set-of}
 use Rattle.machine.specs.declared.Board.{Board}
 use Rattle.machine.specs.Boards.{siteAt, tallyAt, entryAt}
-use Rattle.machine.specs.Soundness.{allOf, setupOk, rowOk, recordOk, siteOk, tallyOk, cellOk, cellsOk, entryOk, isSound}
+use Rattle.machine.specs.Soundness.{setupOk, rowOk, recordOk, siteOk, tallyOk, cellOk, cellsOk, entryOk, isSound}
 
--- ---- the parts, where there are n sites and `count` postings offered, `all` as a set
-
-abbrev pub allOffered : ℕ → Set
-allOffered count = setOf (offeredBy count)
-
-unfoldable pub rowSound : ℕ → Posting → Bool
-rowSound n p = ltb (p .owner) n && fieldsOk p
-
-unfoldable pub tableSound : ℕ → Table → Bool
-tableSound n t = leb (t .count) capacity && allBelow (λ m. rowSound n (row t m)) (t .count)
+-- ---- the parts of a board
 
 -- what the rest is tested by: setup and table, and those down
 unfoldable pub basisSound : Setup → ℕ → Table → Bool
 basisSound setup down t = allOf (setupOk setup ∷ tableSound (setup .n) t ∷ ltb down (2 ^ setup .n) ∷ [])
-
-unfoldable pub maskSound : ℕ → ℕ → ℕ → ℕ → Bool
-maskSound n count m mask = eqb mask 0 || (offeredBy count m && ltb mask (2 ^ n))
-
--- the masks of all postings, by number
-unfoldable pub masksSound : ℕ → ℕ → List ℕ → Bool
-masksSound n count masks = allBelow (λ m. maskSound n count m (getD masks m 0)) capacity
-
-unfoldable pub recordSound : ℕ → Record → Bool
-recordSound count r =
-    allOf (leb (r .count) capacity ∷ allBelow (λ i. offeredBy count (getD (r .numbers) i 0)) (r .count) ∷ distinct (numbersOf r) ∷ [])
-
--- the sets of a site
-unfoldable pub setsSound : Set → Site → Bool
-setsSound all s =
-    allOf
-    (subset (s .seen) all
-    ∷ subset (s .held) all
-    ∷ subset (s .stepped) all
-    ∷ subset (s .finished) all
-    ∷ subset (s .got) all
-    ∷ [])
-
--- a site, where the log has `logged` entries
-unfoldable pub siteSound : ℕ → ℕ → ℕ → Set → Site → Bool
-siteSound n count logged all s =
-    allOf
-    (setsSound all s
-    ∷ masksSound n count (s .heard)
-    ∷ masksSound n count (s .good)
-    ∷ recordSound count (s .delivered)
-    ∷ leb (s .place) logged
-    ∷ [])
-
-unfoldable pub sitesSound : ℕ → ℕ → ℕ → Set → List Site → Bool
-sitesSound n count logged all l = allBelow (λ p. siteSound n count logged all (getD l p noSite)) n
-
-unfoldable pub tallySound : ℕ → ℕ → Set → ℕ → Tally → Bool
-tallySound n count all m t =
-    allOf
-    (maskSound n count m (t .heard)
-    ∷ maskSound n count m (t .has)
-    ∷ (isEmptySet (t .union) || (offeredBy count m && subset (t .union) all))
-    ∷ [])
-
-unfoldable pub talliesSound : ℕ → ℕ → Set → List Tally → Bool
-talliesSound n count all l = allBelow (λ m. tallySound n count all m (getD l m noTally)) capacity
-
--- a THIRD about m from a site: it goes to the owner, and its set names postings offered
-unfoldable pub thirdSound : ℕ → Set → List ℕ → ℕ → ℕ → ℕ → Bool
-thirdSound owner all carried m from mask = eqb mask (2 ^ owner) && subset (setIn carried m from) all
-
--- the posting of cell k
-abbrev pub postingAt : ℕ → ℕ
-postingAt k = k / sites % capacity
-
--- cell k, whose posting has this owner
-unfoldable pub cellSound : ℕ → ℕ → ℕ → Set → List ℕ → ℕ → ℕ → Bool
-cellSound n count owner all carried k mask =
-    eqb mask 0
-    || allOf
-    (offeredBy count (postingAt k)
-    ∷ ltb (k % sites) n
-    ∷ ltb mask (2 ^ n)
-    ∷ (not (eqb (k / (capacity * sites)) THIRD) || thirdSound owner all carried (postingAt k) (k % sites) mask)
-    ∷ [])
-
--- the cell at place k
-unfoldable pub cellSoundAt : ℕ → Table → Set → List ℕ → List ℕ → ℕ → Bool
-cellSoundAt n t all carried masks k = cellSound n (t .count) (ownerOf t (postingAt k)) all carried k (getD masks k 0)
-
--- how many cells make a block
-abbrev pub block : ℕ
-block = 64
-
--- the block of cells from k on
-unfoldable pub blockSound : ℕ → Table → Set → List ℕ → List ℕ → ℕ → Bool
-blockSound n t all carried masks k = allBelow (λ i. cellSoundAt n t all carried masks (k + i)) block
-
-unfoldable pub cellsSound : ℕ → Table → Set → List ℕ → List ℕ → Bool
-cellsSound n t all carried masks = allBelow (cellSoundAt n t all carried masks) cells
-
--- i masks from place k on, joined
-unfoldable pub joined : List ℕ → ℕ → ℕ → ℕ
-joined masks k zero = 0
-joined masks k (suc i) = bitOr (joined masks k i) (getD masks (k + i) 0)
-
--- the postings that their owners have finished
-unfoldable pub finishedSet : Table → List Site → Set
-finishedSet t l = setOf (λ m. has (getD l (ownerOf t m) noSite .finished) m)
-
--- a posting in pool or log or neither; `within`: its entry's set names postings offered
-unfoldable pub entrySound : Bool → Bool → Bool → Bool → Bool
-entrySound pooled logged finished within = not (pooled || logged) || allOf (not (pooled && logged) ∷ finished ∷ within ∷ [])
-
-unfoldable pub entriesSound : Set → Set → Set → List Set → Set → Bool
-entriesSound pool logged finished l all =
-    allBelow (λ m. entrySound (has pool m) (has logged m) (has finished m) (subset (getD l m noSet) all)) capacity
-
--- the pool, the log and their entries
-unfoldable pub poolSound : Table → List Site → Set → Set → List Set → Record → Bool
-poolSound t l all pool entries log =
-    allOf (subset pool all ∷ recordSound (t .count) log ∷ entriesSound pool (setOf (contains log)) (finishedSet t l) entries all ∷ [])
 
 -- all of a board, with the set of the postings offered
 abbrev pub partsOf : Board → Set → List Bool
@@ -160,26 +44,6 @@ partsOf b all =
     ∷ cellsSound (b .setup .n) (b .table) all (b .flight .carried) (b .flight .masks)
     ∷ poolSound (b .table) (b .sites) all (b .pool) (b .entries) (b .log)
     ∷ []
-
--- ---- tests of all numbers below n
-
-pub all-none : (p : ℕ → Bool) → allBelow p 0 ≡ true
-unfolding allBelow
-all-none p = refl
-
-pub all-ext : (p q : ℕ → Bool) (n : ℕ) → ((i : ℕ) → i < n → p i ≡ q i) → allBelow p n ≡ allBelow q n
-unfolding allBelow
-all-ext p q zero h = refl
-all-ext p q (suc n) h = ap₂ (λ (a b : Bool). a && b) (all-ext p q n (λ i l. h i (omega arith))) (h n (omega arith))
-
--- the first number apart
-all-shift : (p : ℕ → Bool) (n : ℕ) → allBelow p (suc n) ≡ (p 0 && allBelow (λ i. p (suc i)) n)
-unfolding allBelow
-all-shift p zero = sym (and-true (p 0))
-all-shift p (suc n) = ap (λ (b : Bool). b && p (suc n)) (all-shift p n) ∙ and-assoc (p 0) (allBelow (λ i. p (suc i)) n) (p (suc n))
-
-pub has-set-of : (p : ℕ → Bool) (x : ℕ) → x < capacity → has (setOf p) x ≡ p x
-has-set-of p x h = member-collect words p capacity x (omega arith) ∙ ap (λ (b : Bool). b && p x) (lt-ltb x capacity h)
 
 -- ---- together they are the definition
 

@@ -1,13 +1,12 @@
 -- A sound board: none of the causes that document 01 lists under refusal 6. Cells that hold nothing live are not looked at.
 -- Rests on Boards, on flight, site, posting and sets.
-use Prim.Native.Nat.{ℕ, zero, suc, _+_, _*_, _/_, _%_, _^_}
-use mathlib.Core.Bool.{Bool, true, false, cond, not, _&&_, _||_}
+use Prim.Native.Nat.{ℕ, suc, _*_, _/_, _%_, _^_}
+use mathlib.Core.Bool.{Bool, true, not, _&&_, _||_}
 use mathlib.Core.List.{List, [], _∷_}
 use lib.Dec.{eqb, ltb, leb}
 use lib.ListN.{getD}
 use Rattle.sets.specs.declared.Set.{Set}
-use Rattle.sets.specs.Below.{allBelow}
-use Rattle.sets.specs.Masks.{hasBit}
+use Rattle.sets.specs.Below.{allBelow, allOf}
 use Rattle.sets.specs.Numbers.{listed, distinct}
 use Rattle.sets.specs.Sets.{capacity, has, subset, isEmptySet, setOf}
 use Rattle.posting.specs.declared.Record.{Record}
@@ -23,11 +22,6 @@ use Rattle.site.specs.Steps.{ownerOf}
 use Rattle.flight.specs.Flights.{carriedBy}
 use Rattle.machine.specs.declared.Board.{Board}
 use Rattle.machine.specs.Boards.{siteAt, tallyAt, entryAt}
-
--- all tests of a list pass
-unfoldable pub allOf : List Bool → Bool
-allOf [] = true
-allOf (b ∷ l) = b && allOf l
 
 -- ---- n, f or matrix as in 2 to 5
 

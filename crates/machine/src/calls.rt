@@ -8,37 +8,47 @@ ghost use Rattle.site.specs.Sites.{sites};
 ghost use Rattle.site.specs.ByMask.{stepOf};
 ghost use Rattle.machine.specs.Soundness.{isSound};
 ghost use Rattle.machine.specs.Calls.{carriedOut, offering, receiving, ordering, reading, crashing};
-ghost use Rattle.machine.specs.ByMask.{placed, refusing, taken};
+ghost use Rattle.machine.specs.ByMask.{refusing, taken};
 use crate::Answer;
 use crate::Board;
-use crate::Cut;
 use crate::Outcome;
-use crate::refusals::cut_refusal;
-use crate::refusals::message_refusal;
-use crate::refusals::offer_refusal;
-use crate::refusals::site_refusal;
-use crate::steps::cut_after;
-use crate::steps::entered;
-use crate::steps::enters;
-use crate::steps::receipt;
-use crate::steps::settle;
-use crate::steps::with_row;
+use masks::with_site;
 use posting::Posting;
+use site::Sends;
 use site::Stepped;
-use site::masks::with_site;
+use steps::Cut;
+use steps::cuts::down_after;
+use steps::cuts::entry_to;
+use steps::cuts::settle_to;
+use steps::cuts::sites_to;
+use steps::entered;
+use steps::enters;
+use steps::receipt;
+use steps::refusals::cut_refusal;
+use steps::refusals::message_refusal;
+use steps::refusals::offer_refusal;
+use steps::refusals::site_refusal;
+use steps::with_row;
 
 impl Board {
-    // Site p has taken a step about m: its sets change, its sends go out, and it delivers.
-    fn place(self, p: usize, m: usize, step: Stepped) -> Board
-        requires { ⌜ (p < sites) × (m < capacity) ⌝ }
-        ensures { λ r. ⌜ r ≡ placed self p m step ⌝ }
+    // Site p takes a step about m, as far as a cut lets it go: its sets change, its sends go out, and it delivers, or it goes down.
+    fn carry_out(self, p: usize, m: usize, step: Stepped, cut: Cut) -> Board
+        requires { ⌜ (p < sites) × (m < capacity) × (step .sends .to < 2 ^ sites) ⌝ }
+        ensures { λ r. ⌜ r ≡ carriedOut self p m (stepOf m step) cut ⌝ }
     {
         let mut d = self;
+        let all = step.sends;
+        let load = all.carried;
+        let sends = Sends {
+            form: all.form,
+            to: sites_to(all.to, cut),
+            good: all.good,
+            carried: load,
+        };
+        let form = all.form as usize;
+        let next = step.site;
+        let site = settle_to(next, step.delivers, m, cut);
         let tally = step.tally;
-        let sends = step.sends;
-        let form = sends.form as usize;
-        let load = sends.carried;
-        let site = settle(step, m);
         d.sites[p] = site;
         d.tallies[m] = tally;
         flight::send(&mut d.flight.masks, form, m, p, sends.to);
@@ -51,25 +61,8 @@ impl Board {
         let old = d.entries[m];
         let entry = entered(old, sends);
         d.entries[m] = entry;
+        d.down = down_after(d.down, p as u8, cut);
         d
-    }
-
-    // The same, whole or cut.
-    fn carry_out(self, p: usize, m: usize, step: Stepped, cut: Cut) -> Board
-        requires { ⌜ (p < sites) × (m < capacity) × (step .sends .to < 2 ^ sites) ⌝ }
-        ensures { λ r. ⌜ r ≡ carriedOut self p m (stepOf m step) cut ⌝ }
-    {
-        match cut {
-            Cut::Whole => {
-                return self.place(p, m, step);
-            }
-            Cut::After(j) => {
-                let part = cut_after(step, j);
-                let mut d = self.place(p, m, part);
-                d.down = with_site(d.down, p as u8);
-                return d;
-            }
-        }
     }
 
     // Offer, of a sound board.
@@ -203,17 +196,10 @@ impl Board {
         let m = log.numbers[place] as usize;
         let carried = d.entries[m];
         let next = own.on_entry();
-        match cut {
-            Cut::Whole => {
-                d.sites[site] = next.deliver_entry(carried, m);
-                return done(d);
-            }
-            Cut::After(j) => {
-                d.sites[site] = next;
-                d.down = with_site(d.down, site as u8);
-                return done(d);
-            }
-        }
+        let after = entry_to(next, carried, m, cut);
+        d.sites[site] = after;
+        d.down = down_after(d.down, site as u8, cut);
+        done(d)
     }
 
     // Crash, of a sound board.

@@ -8,10 +8,10 @@ ghost use Rattle.machine.specs.Soundness.{isSound};
 ghost use Rattle.machine.specs.Figures.{showing, showingAll};
 use crate::Answer;
 use crate::Board;
-use crate::refusals::site_refusal;
 use books::Records;
 use posting::Record;
 use site::SITES;
+use steps::refusals::site_refusal;
 
 // How many numbers the books of a site have.
 const FIGURES: usize = 64;

@@ -9,16 +9,14 @@ use site::SITES;
 use site::Setup;
 use site::Site;
 use site::Tally;
+use steps::Cut;
 
 pub mod calls;
 pub mod figures;
-pub mod passing;
 pub mod quiet;
-pub mod refusals;
 pub mod service;
 pub mod sound;
 pub mod start;
-pub mod steps;
 
 pub struct Board {
     pub setup: Setup,
@@ -35,12 +33,6 @@ pub struct Board {
     pub entries: [Set; POSTINGS],
     // the postings of the log's entries, in order
     pub log: Record,
-}
-
-// Whether a step is taken whole, or cut after its first sends.
-pub enum Cut {
-    Whole,
-    After(usize),
 }
 
 // A call: one of document 01's events.

@@ -4,9 +4,9 @@ ghost use mathlib.Core.Path.{_≡_};
 ghost use Rattle.machine.specs.Runs.{isQuiet};
 ghost use Rattle.machine.specs.QuietParts.{upByte, allRead};
 use crate::Board;
+use masks::has_site;
 use site::SITES;
 use site::Site;
-use site::masks::has_site;
 
 // The sites that are up, of n with these down. A byte has eight of them at most, and a mask in flight names no others.
 pub fn up_mask(n: u8, down: u8) -> u8

@@ -5,9 +5,9 @@ ghost use Rattle.machine.specs.Figures.{showing, showingAll};
 ghost use Rattle.machine.specs.Calls.{offering, receiving, ordering, reading, crashing};
 use crate::Answer;
 use crate::Board;
-use crate::Cut;
 use crate::Outcome;
 use crate::calls::refused;
+use steps::Cut;
 
 impl Board {
     // Offer: the posting gets its number; FIRST goes to all n sites.

@@ -2,9 +2,11 @@
 // Rests on flight, site, posting and sets.
 ghost use mathlib.Core.Path.{_≡_};
 ghost use Rattle.site.specs.Sites.{blankSite, blankTally};
-ghost use Rattle.machine.specs.Boards.{emptyTable, freshBoard};
+ghost use Rattle.posting.specs.Conflicts.{emptyTable};
+ghost use Rattle.machine.specs.Boards.{freshBoard};
 ghost use Rattle.machine.specs.Calls.{starting};
-ghost use Rattle.machine.specs.ByMask.{firstCause, startCauses};
+ghost use Rattle.steps.specs.Causes.{firstCause};
+ghost use Rattle.machine.specs.ByMask.{startCauses};
 use crate::Board;
 use crate::Outcome;
 use crate::calls::done;

@@ -1,9 +1,9 @@
 -- The table of postings offered, the accounts that a posting touches, which postings conflict, and C(m).
 -- Rests on Kinds and sets.
-use Prim.Native.Nat.{ℕ}
+use Prim.Native.Nat.{ℕ, _+_}
 use mathlib.Core.Bool.{Bool, not, _&&_, _||_}
 use lib.Dec.{eqb, ltb}
-use lib.ListN.{getD}
+use lib.ListN.{getD, set, replicate}
 use Rattle.sets.specs.declared.Set.{Set}
 use Rattle.sets.specs.Below.{anyBelow}
 use Rattle.sets.specs.Sets.{capacity, with, setOf}
@@ -28,6 +28,14 @@ offeredBy count m = ltb m count && ltb m capacity
 -- posting m has been offered
 unfoldable pub offered : Table → ℕ → Bool
 offered t m = offeredBy (t .count) m
+
+-- nothing offered
+abbrev pub emptyTable : Table
+emptyTable = record { count = 0; rows = replicate capacity noPosting }
+
+-- a posting more in the table
+abbrev pub tableWith : Table → Posting → Table
+tableWith t p = record { count = t .count + 1; rows = set (t .rows) (t .count) p }
 
 -- ---- accounts
 

@@ -1,7 +1,7 @@
 // Programs `board` and `statement` over a file descriptor: a run file is read, and what they print is written to standard output.
 // Rests on runfile and statements for all of the work, on io and libc for reading and writing, of which no contract can say more.
 use libc::STDOUT_FILENO;
-use runfile::Printed;
+use printer::Printed;
 
 // One byte more than the longest run file has: what fills it is malformed, however much follows.
 const ROOM: usize = 40_970;

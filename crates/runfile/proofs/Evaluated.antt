@@ -6,7 +6,7 @@ use mathlib.Core.Bool.{Bool, true, false}
 use mathlib.Core.List.{[], _∷_, map}
 use lib.ListN.{replicate}
 use lib.Count.{ones, onesIn}
-use Rattle.sets.specs.Below.{allBelow, anyBelow}
+use Rattle.sets.specs.Below.{allBelow, anyBelow, allOf}
 use Rattle.sets.specs.Masks.{hasBit}
 use Rattle.sets.specs.Numbers.{listed, distinct}
 use Rattle.sets.specs.Words.{member, insert, remove, insertIf, wordwise, union, intersect, isEmpty, isSubset, membersBelow, members, collect}
@@ -17,11 +17,11 @@ use Rattle.books.specs.Books.{tabulate}
 use Rattle.site.specs.Sends.{toAll, toOthers}
 use Rattle.site.specs.Steps.{alone, onOffer, onFirst, stepSecond, onSecond, stepThird, onThird, onDeliver, onEntry, delivering, deliveringAll}
 use Rattle.flight.specs.Flights.{pairAt, cellAt, messageIn, wordsFrom, setIn, sendingTo, takingFrom, saying, carrying, nothingComes, inFlight, sending, sendingAll, takingOut, lowestTo, lowestFrom}
-use Rattle.machine.specs.Soundness.{allOf, setupOk, recordOk, siteOk, tallyOk, cellOk, cellsOk, entryOk, isSound}
+use Rattle.machine.specs.Soundness.{setupOk, recordOk, siteOk, tallyOk, cellOk, cellsOk, entryOk, isSound}
 use Rattle.machine.specs.Calls.{judged, starting, pooling, entering, carriedOut, offering, receiptOf, receiving}
 use Rattle.machine.specs.Runs.{taking, running, answers, upMask, isQuiet}
-use Rattle.runfile.specs.RunFile.{hasMark, headerOk, setupOf, lengthOk, unusedOk, eventOk, eventsOk, wellFormed, offerOf, receiveOf, callOf, callAt, callsOf}
-use Rattle.runfile.specs.Output.{digits, decimal, eventLine, eventLines, items, siteLine, siteLines, logLine, refusedLine, boardLines, printedOf}
+use Rattle.decoder.specs.RunFile.{hasMark, headerOk, setupOf, lengthOk, unusedOk, eventOk, eventsOk, wellFormed, offerOf, receiveOf, callOf, callAt, callsOf}
+use Rattle.printer.specs.Output.{digits, decimal, eventLine, eventLines, items, siteLine, siteLines, logLine, refusedLine, boardLines, printedOf}
 use Rattle.runfile.specs.Program.{endedOn, refusals, printedRun, printedFrom, printed}
 use Rattle.runfile.specs.Examples.{wholeFile, wholeText, eightSites, refusedText, wellFormedFiles, malformedFiles}
 

@@ -1,7 +1,7 @@
 -- A receipt, whole or cut, by straight code on a board in place: each way through it gives what machine's receiving says.
 -- Rests on InPlace of the specs and on machine's laws. Assumes nothing.
-use Prim.Native.Nat.{ℕ, _^_, _<_}
-use mathlib.Core.Path.{_≡_, refl, sym, ap, _∙_}
+use Prim.Native.Nat.{ℕ, _<_}
+use mathlib.Core.Path.{_≡_, refl, ap, _∙_}
 use mathlib.Core.Logic.{_≢_}
 use mathlib.Core.Bool.{Bool, true, false}
 use mathlib.Core.List.{List, []}
@@ -14,34 +14,26 @@ use Rattle.sets.specs.Masks.{hasBit}
 use Rattle.sets.specs.Sets.{withIf}
 use Rattle.site.specs.declared.Site.{Site}
 use Rattle.site.specs.declared.Stepped.{Stepped}
-use Rattle.site.specs.Sites.{sites}
-use Rattle.site.specs.ByMask.{stepOf, withSite}
-use Rattle.site.specs.ByMaskLaws.{only-site}
+use Rattle.site.specs.ByMask.{stepOf}
 use Rattle.flight.specs.Flights.{cells, inFlight, goodTo, carriedBy, sendingTo, takingFrom, goodSent, goodTaken, setSent, setTaken, takingOut}
 use Rattle.machine.specs.declared.Board.{Board}
-use Rattle.machine.specs.declared.Cut.{Cut}
-use Rattle.machine.specs.declared.Cut.the-variants.{Whole, After}
+use Rattle.steps.specs.declared.Cut.{Cut}
 use Rattle.machine.specs.declared.Call.{Call}
 use Rattle.machine.specs.declared.Call.the-variants.{Receive}
-use Rattle.machine.specs.declared.Outcome.{Outcome}
 use Rattle.machine.specs.Boards.{siteAt, tallyAt, entryAt, boardFlight, boardDown}
 use Rattle.machine.specs.Soundness.{isSound}
 use Rattle.machine.specs.Calls.{carriedOut, receiving}
 use Rattle.machine.specs.Runs.{taking, running}
-use Rattle.machine.specs.ByMask.{firstCause, messageCauses, cutCauses, refusing, taken, receiptByMask, settled, cutStep, enters, entered, placed}
-use Rattle.machine.proofs.Placed.{whole-is, cut-is, boardParts, placed-law, receipt, receipt-fits, receipt-law}
+use Rattle.steps.specs.Causes.{firstCause, messageCauses, cutCauses}
+use Rattle.machine.specs.ByMask.{refusing, taken}
+use Rattle.steps.specs.ByMask.{receiptByMask, enters, entered}
+use Rattle.machine.proofs.Placed.{boardParts, receipt, receipt-fits, receipt-law, partTo, carried-parts}
 use Rattle.machine.proofs.Received.{receive-site, receive-none, receive-late, receive-done}
 use Rattle.machine.proofs.SoundTest.{sound-facts}
 use Rattle.machine.proofs.Typed.{IsBoard, is-board}
 use Rattle.invariants.proofs.Reached.{GoodIf, run-good}
 use Rattle.runfile.specs.Program.{StaysSound}
-use Rattle.runfile.specs.InPlace.{cutTo, downAfter}
-
--- a step carried out as far as its cut lets it go
-pub carried-law : (b : Board) (p m : ℕ) (s : Stepped) → s .sends .to < 2 ^ sites → p < 7 → (cut : Cut)
-    → boardDown (placed b p m (cutTo s cut)) (downAfter (b .down) p cut) ≡ carriedOut b p m (stepOf m s) cut
-carried-law b p m s fits h Whole = unfold placed in refl ∙ sym (whole-is b p m s fits)
-carried-law b p m s fits h (After j) = rw (only-site p h) (sym (cut-is b p m s fits j))
+use Rattle.steps.specs.Cuts.{sitesTo, settledTo, downAfter}
 
 module _ (b : Board) (sound : isSound b ≡ true) (long : length (b .flight .masks) ≡ cells) (form m from to : ℕ) (cut : Cut)
     (call : Call) (called : call ≡ Receive form m from to cut)
@@ -72,32 +64,21 @@ module _ (b : Board) (sound : isSound b ≡ true) (long : length (b .flight .mas
       abbrev on : Board
       on = boardFlight b (takingOut (b .flight) form m from to)
 
-      pub place-done : late ≡ 0 → to < 7 → (part : Stepped) (site : Site) (masks good carried : List ℕ) (so : Bool) (pool entry : Set) (down : ℕ)
-          → let x = part .sends in
-          part ≡ cutTo s cut → site ≡ settled part m
+      pub place-done : late ≡ 0 → to < 7 → (reached : ℕ) (site : Site) (masks good carried : List ℕ) (so : Bool) (pool entry : Set) (down : ℕ)
+          → let part = partTo s reached cut in let x = part .sends in
+          reached ≡ sitesTo (s .sends .to) cut → site ≡ settledTo (s .site) (s .delivers) m cut
           → masks ≡ sendingTo (takingFrom (b .flight .masks) form m from to) (x .form) m to (x .to)
           → good ≡ goodSent (goodTaken (b .flight .good) form m from to) (x .form) m to (x .to) (x .good)
           → carried ≡ setSent (setTaken (b .flight .carried) form m from) (x .form) m to (x .to) (x .carried)
           → so ≡ enters x → pool ≡ withIf (b .pool) m so → entry ≡ entered (entryAt b m) x → down ≡ downAfter (b .down) to cut
           → taken (boardDown (boardParts b to m part site masks good carried pool entry) down) ≡ taking b call
-      place-done x h part site masks good carried so pool entry down p e3 e4 e5 e6 e7 e8 e9 dn =
+      place-done x h reached site masks good carried so pool entry down p e3 e4 e5 e6 e7 e8 e9 dn =
           receive-done b sound long form m from to cut why tested z t late cut-tested x _
-          (ap (λ (y : Board). boardDown y down) (parts ∙ ap (λ (y : Stepped). placed on to m y) p)
-          ∙ ap (λ (k : ℕ). boardDown (placed on to m (cutTo s cut)) k) dn
-          ∙ carried-law on to m s (rw is (receipt-fits b form m from to)) h cut
-          ∙ ap (λ (y : Stepped). carriedOut on to m (stepOf m y) cut) is)
+          (carried-out ∙ ap (λ (y : Stepped). carriedOut on to m (stepOf m y) cut) is)
           ∙ does
         where
-          parts : boardParts b to m part site masks good carried pool entry ≡ placed on to m part
-          parts = unfold takingOut in placed-law on to m part site masks good carried so pool entry e3 e4 e5 e6 e7 e8 e9
-
--- ---- a cut, by its case
-
-pub cut-part : (s : Stepped) (cut : Cut) (j : ℕ) → cut ≡ After j → cutStep s j ≡ cutTo s cut
-cut-part s cut j e = rw e
-
-pub cut-down : (down p : ℕ) (cut : Cut) (j : ℕ) → cut ≡ After j → withSite down p ≡ downAfter down p cut
-cut-down down p cut j e = rw e
+          carried-out : boardDown (boardParts b to m (partTo s reached cut) site masks good carried pool entry) down ≡ carriedOut on to m (stepOf m s) cut
+          carried-out = unfold takingOut in carried-parts on to m s (rw is (receipt-fits b form m from to)) h cut reached site masks good carried so pool entry down p e3 e4 e5 e6 e7 e8 e9 dn
 
 -- ---- the board of a run in its loop
 

@@ -1,8 +1,7 @@
 -- What the proofs of runfile share, and the evaluated case.
 -- Assumes nothing.
-pub mod Writing
-pub mod Texts
 pub mod Runs
 pub mod InPlace
+pub mod InPlaceCalls
 pub mod Programs
 pub mod Evaluated

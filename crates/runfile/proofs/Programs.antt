@@ -18,14 +18,15 @@ use Rattle.machine.specs.declared.Outcome.{Outcome}
 use Rattle.machine.specs.declared.Answer.the-variants.{Done}
 use Rattle.machine.specs.Boards.{freshBoard, blankBoard}
 use Rattle.machine.specs.Soundness.{sitesOk, crashesOk}
-use Rattle.machine.specs.Calls.{refusalOf, cause, judged, starting}
+use Rattle.machine.specs.Calls.{refusalOf, judged, starting}
+use Rattle.steps.specs.Causes.{cause}
 use Rattle.machine.specs.Runs.{accepted, running, isQuiet}
 use Rattle.invariants.proofs.Start.{reached-sound}
-use Rattle.runfile.specs.declared.Ended.{Ended}
-use Rattle.runfile.specs.declared.Printed.{Printed}
-use Rattle.runfile.specs.RunFile.{setupOf, headerOk, lengthOk, eventsOk, eventCount, eventLimit, wellFormed, callsOf}
-use Rattle.runfile.specs.Output.{refusedLine, printedOf}
-use Rattle.runfile.specs.Writing.{slicePrinted, answerPrinted}
+use Rattle.printer.specs.declared.Ended.{Ended}
+use Rattle.printer.specs.declared.Printed.{Printed}
+use Rattle.decoder.specs.RunFile.{setupOf, headerOk, lengthOk, eventsOk, eventCount, eventLimit, wellFormed, callsOf}
+use Rattle.printer.specs.Output.{refusedLine, printedOf}
+use Rattle.printer.specs.Writing.{slicePrinted, answerPrinted}
 use Rattle.runfile.specs.Program.{StaysSound, endedOn, refusals, printedRun, printedFrom, printed}
 
 -- a well-formed file has no more events than the limit

@@ -19,8 +19,8 @@ use Rattle.machine.specs.Boards.{siteAt}
 use Rattle.machine.specs.Calls.{refusalOf}
 use Rattle.machine.specs.Runs.{taking, running, answers}
 use Rattle.machine.specs.Figures.{recordOf}
-use Rattle.runfile.specs.declared.Ended.{Ended}
-use Rattle.runfile.specs.RunFile.{callAt}
+use Rattle.printer.specs.declared.Ended.{Ended}
+use Rattle.decoder.specs.RunFile.{callAt}
 use Rattle.runfile.specs.Program.{endedOn, refusals}
 
 -- the calls of the first k events

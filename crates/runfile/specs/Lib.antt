@@ -1,8 +1,4 @@
--- RunFile: the file. Output: the lines. Writing: bytes in a lent slice. Program: the whole. Examples: files by their bytes.
--- Rests on machine, site, books, posting and sets.
-pub mod RunFile
-pub mod Output
-pub mod Writing
+-- Program: the whole. Examples: files by their bytes. InPlace: a step in the loop of events.
+-- Rests on decoder, printer, machine, site and books.
 pub mod Program
 pub mod Examples
-pub mod InPlace

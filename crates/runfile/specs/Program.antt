@@ -1,5 +1,5 @@
 -- What `board` prints for an input: the lines of the run that the file stands for, or the one line of a refusal.
--- Rests on RunFile and Output, and on machine for the run (document 01, "Program `board`").
+-- Rests on decoder's RunFile, on printer's Output, and on machine for the run (document 01, "Program `board`").
 use Prim.Native.Nat.{ℕ}
 use mathlib.Core.Path.{_≡_}
 use mathlib.Core.Bool.{Bool, true, cond}
@@ -15,9 +15,9 @@ use Rattle.machine.specs.Boards.{siteAt}
 use Rattle.machine.specs.Soundness.{isSound}
 use Rattle.machine.specs.Calls.{refusalOf, starting}
 use Rattle.machine.specs.Runs.{running, answers, isQuiet}
-use Rattle.runfile.specs.declared.Ended.{Ended}
-use Rattle.runfile.specs.RunFile.{setupOf, wellFormed, callsOf}
-use Rattle.runfile.specs.Output.{refusedLine, printedOf}
+use Rattle.printer.specs.declared.Ended.{Ended}
+use Rattle.decoder.specs.RunFile.{setupOf, wellFormed, callsOf}
+use Rattle.printer.specs.Output.{refusedLine, printedOf}
 
 -- what is shown of a board: its sites' records, which of them are down, the log, and whether it is quiet
 unfoldable pub endedOn : Board → Bool → Ended

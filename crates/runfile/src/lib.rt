@@ -1,33 +1,15 @@
-// The run file of program `board`, read, and what the program prints, written into a lent slice.
-// Rests on machine, site, books, posting and sets. Document 01, "Program `board`", gives both formats.
+// A run file run and printed, and what is shown of the board that the run ends on.
+// Rests on decoder for the file, on printer for what is printed, on machine, books, posting and sets.
 ghost use mathlib.Core.Path.{_≡_};
 ghost use Rattle.runfile.specs.Program.{endedOn};
 use books::Records;
 use books::SITES;
 use machine::Board;
 use posting::Record;
+use printer::Ended;
 use sets::POSTINGS;
 
-pub mod file;
-pub mod print;
 pub mod run;
-
-// What is shown of the board that a run ends on.
-pub struct Ended {
-    // how many sites there are
-    pub n: u8,
-    // the sites that are down
-    pub down: u8,
-    pub records: Records,
-    pub log: Record,
-    pub quiet: bool,
-}
-
-// What printing into a lent slice answers: how many bytes were written, or that the slice is shorter than the text and stays.
-pub enum Printed {
-    Written(usize),
-    Short,
-}
 
 // What is shown of a board, of which it is known whether it is quiet.
 pub fn ended_on(board: Board, quiet: bool) -> Ended

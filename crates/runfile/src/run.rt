@@ -2,78 +2,46 @@
 // Rests on file and print, on machine for the calls.
 ghost use Prim.Native.Nat.{_≤_};
 ghost use mathlib.Core.Path.{_≡_};
-ghost use mathlib.Core.Bool.{true};
 ghost use lib.ListN.{length, take};
-ghost use Rattle.machine.specs.Soundness.{isSound};
 ghost use Rattle.machine.specs.Calls.{refusalOf};
-ghost use Rattle.machine.specs.Runs.{taking, running};
-ghost use Rattle.runfile.specs.RunFile.{eventLimit, eventCount, callsOf};
+ghost use Rattle.machine.specs.Runs.{running};
+ghost use Rattle.decoder.specs.RunFile.{eventLimit, eventCount, callsOf};
 ghost use Rattle.runfile.specs.Program.{StaysSound, refusals, printedRun, printed};
-ghost use Rattle.runfile.specs.InPlace.{cutTo, downAfter};
-ghost use Rattle.runfile.specs.Writing.{slicePrinted, answerPrinted};
-use crate::Printed;
+ghost use Rattle.printer.specs.Writing.{slicePrinted, answerPrinted};
 use crate::ended_on;
-use crate::file::EVENTS;
-use crate::file::call_at;
-use crate::file::event_count;
-use crate::file::setup_of;
-use crate::file::well_formed;
-use crate::print::print_refused;
-use crate::print::print_run;
+use decoder::file::EVENTS;
+use decoder::file::call_at;
+use decoder::file::event_count;
+use decoder::file::setup_of;
+use decoder::file::well_formed;
 use machine::Answer;
 use machine::Board;
 use machine::Call;
-use machine::Cut;
-use machine::Outcome;
-use machine::passing::pass_carried;
-use machine::passing::pass_good;
-use machine::passing::pass_masks;
-use machine::refusals::cut_refusal;
-use machine::refusals::message_refusal;
-use machine::steps::cut_after;
-use machine::steps::entered;
-use machine::steps::enters;
-use machine::steps::receipt;
-use machine::steps::settle;
-use site::Stepped;
-use site::masks::with_site;
+use masks::every_site;
+use masks::with_site;
+use posting::Posting;
+use printer::Printed;
+use printer::print::print_refused;
+use printer::print::print_run;
+use site::Sends;
+use steps::cuts::down_after;
+use steps::cuts::entry_to;
+use steps::cuts::settle_to;
+use steps::cuts::sites_to;
+use steps::entered;
+use steps::enters;
+use steps::passing::pass_carried;
+use steps::passing::pass_good;
+use steps::passing::pass_masks;
+use steps::receipt;
+use steps::refusals::cut_refusal;
+use steps::refusals::message_refusal;
+use steps::refusals::offer_refusal;
+use steps::refusals::site_refusal;
+use steps::with_row;
 
-// A sound board takes a call.
-fn step(board: Board, call: Call) -> Outcome
-    requires { ⌜ isSound board ≡ true ⌝ }
-    ensures { λ r. ⌜ r ≡ taking board call ⌝ }
-{
-    match call {
-        Call::Offer {
-            site,
-            kind,
-            a,
-            b,
-            amount,
-            cut,
-        } => {
-            return board.offer_sound(site, kind, a, b, amount, cut);
-        }
-        Call::Receive {
-            form,
-            posting,
-            from,
-            to,
-            cut,
-        } => {
-            return board.receive_sound(form, posting, from, to, cut);
-        }
-        Call::Order { posting } => {
-            return board.order_sound(posting);
-        }
-        Call::Read { site, cut } => {
-            return board.read_sound(site, cut);
-        }
-        Call::Crash { site } => {
-            return board.crash_sound(site);
-        }
-    }
-}
+// The form of the messages that an offer sends, as flight counts it.
+const FIRST: usize = 0;
 
 // The number of a refusal; 0 of what is accepted.
 pub fn refusal_of(answer: Answer) -> u8
@@ -92,36 +60,8 @@ pub fn refusal_of(answer: Answer) -> u8
     }
 }
 
-// The step as far as a cut lets it go.
-fn cut_to(step: Stepped, cut: Cut) -> Stepped
-    ensures { λ r. ⌜ r ≡ cutTo step cut ⌝ }
-{
-    match cut {
-        Cut::Whole => {
-            return step;
-        }
-        Cut::After(j) => {
-            return cut_after(step, j);
-        }
-    }
-}
-
-// The sites that are down after a step of site p.
-fn down_after(down: u8, p: u8, cut: Cut) -> u8
-    ensures { λ r. ⌜ r ≡ downAfter down p cut ⌝ }
-{
-    match cut {
-        Cut::Whole => {
-            return down;
-        }
-        Cut::After(j) => {
-            return with_site(down, p);
-        }
-    }
-}
-
-// The events of a file, run from a board: the board after them, and in `numbers` the refusal number of each answer. Receipts are most of
-// the events: for those the board stays where it is.
+// The events of a file, run from a board: the board after them, and in `numbers` the refusal number of each answer. The board stays where it
+// is: an event stores only the parts that it changes, since to hand the board over costs more than most events do.
 pub fn run_events(board: Board, input: &[u8], numbers: &mut [u8]) -> Board
     requires { ⌜ StaysSound board × (eventCount (now input) ≤ length (now numbers)) ⌝ }
     ensures { λ r. ⌜ r ≡ running board (callsOf (now (input .entry))) ⌝ }
@@ -131,92 +71,200 @@ pub fn run_events(board: Board, input: &[u8], numbers: &mut [u8]) -> Board
     let mut d = board;
     for k in 0..count {
         let call = call_at(input, k);
-        if let Call::Receive {
-            form,
-            posting,
-            from,
-            to,
-            cut,
-        } = call {
-            let setup = d.setup;
-            let why = message_refusal(setup.n, d.down, from, to);
-            if why != 0 {
-                numbers[k] = why;
-                continue;
-            }
-            if flight::in_flight(&d.flight.masks, form, posting, from, to) {
-                let good = flight::is_good(&d.flight.good, posting, from, to);
-                let load = flight::carried_set(&d.flight.carried, posting, from);
-                let own = d.sites[to];
-                let tally = d.tallies[posting];
+        match call {
+            Call::Offer {
+                site,
+                kind,
+                a,
+                b,
+                amount,
+                cut,
+            } => {
+                let setup = d.setup;
+                let why = site_refusal(setup.n, d.down, site);
+                if why != 0 {
+                    numbers[k] = why;
+                    continue;
+                }
+                let posting = Posting {
+                    owner: site as u8,
+                    kind: kind,
+                    a: a,
+                    b: b,
+                    amount: amount,
+                };
                 let table = d.table;
-                let whole = receipt(
-                    setup,
-                    table,
-                    own,
-                    tally,
-                    form,
-                    posting,
-                    from as u8,
-                    to as u8,
-                    good,
-                    load,
-                );
-                let all = whole.sends;
-                let late = cut_refusal(setup.f, d.down, all.to, cut);
+                let m = table.count;
+                let no = offer_refusal(posting, m);
+                if no != 0 {
+                    numbers[k] = no;
+                    continue;
+                }
+                let all = every_site(setup.n);
+                let late = cut_refusal(setup.f, d.down, all, cut);
                 if late != 0 {
                     numbers[k] = late;
                     continue;
                 }
-                let part = cut_to(whole, cut);
-                let noted = part.tally;
-                let sends = part.sends;
-                let sent = sends.form as usize;
-                let carried = sends.carried;
-                let site = settle(part, posting);
-                pass_masks(&mut d.flight.masks, form, posting, from, to, sent, sends.to);
-                pass_good(
-                    &mut d.flight.good,
-                    form,
-                    posting,
-                    from,
-                    to,
-                    sent,
-                    sends.to,
-                    sends.good,
-                );
-                pass_carried(
-                    &mut d.flight.carried,
-                    form,
-                    posting,
-                    from,
-                    to,
-                    sent,
-                    sends.to,
-                    carried,
-                );
-                d.sites[to] = site;
-                d.tallies[posting] = noted;
-                let so = enters(sends);
-                let pool = d.pool;
-                let more = pool.with_if(posting, so);
-                d.pool = more;
-                let old = d.entries[posting];
-                let entry = entered(old, sends);
-                d.entries[posting] = entry;
-                let down = down_after(d.down, to as u8, cut);
+                // an offer changes nothing of its site and carries nothing: FIRST goes out, and the posting gets its row
+                let receivers = sites_to(all, cut);
+                flight::send(&mut d.flight.masks, FIRST, m, site, receivers);
+                let more = with_row(table, posting);
+                d.table = more;
+                let down = down_after(d.down, site as u8, cut);
                 d.down = down;
                 numbers[k] = 0;
                 continue;
             }
-            numbers[k] = 11;
-            continue;
+            Call::Receive {
+                form,
+                posting,
+                from,
+                to,
+                cut,
+            } => {
+                let setup = d.setup;
+                let why = message_refusal(setup.n, d.down, from, to);
+                if why != 0 {
+                    numbers[k] = why;
+                    continue;
+                }
+                if flight::in_flight(&d.flight.masks, form, posting, from, to) {
+                    let good = flight::is_good(&d.flight.good, posting, from, to);
+                    let load = flight::carried_set(&d.flight.carried, posting, from);
+                    let own = d.sites[to];
+                    let tally = d.tallies[posting];
+                    let table = d.table;
+                    let whole = receipt(
+                        setup,
+                        table,
+                        own,
+                        tally,
+                        form,
+                        posting,
+                        from as u8,
+                        to as u8,
+                        good,
+                        load,
+                    );
+                    let all = whole.sends;
+                    let late = cut_refusal(setup.f, d.down, all.to, cut);
+                    if late != 0 {
+                        numbers[k] = late;
+                        continue;
+                    }
+                    let reached = sites_to(all.to, cut);
+                    let carried = all.carried;
+                    let sends = Sends {
+                        form: all.form,
+                        to: reached,
+                        good: all.good,
+                        carried: carried,
+                    };
+                    let sent = all.form as usize;
+                    let noted = whole.tally;
+                    let next = whole.site;
+                    let site = settle_to(next, whole.delivers, posting, cut);
+                    pass_masks(&mut d.flight.masks, form, posting, from, to, sent, sends.to);
+                    pass_good(
+                        &mut d.flight.good,
+                        form,
+                        posting,
+                        from,
+                        to,
+                        sent,
+                        sends.to,
+                        sends.good,
+                    );
+                    pass_carried(
+                        &mut d.flight.carried,
+                        form,
+                        posting,
+                        from,
+                        to,
+                        sent,
+                        sends.to,
+                        carried,
+                    );
+                    d.sites[to] = site;
+                    d.tallies[posting] = noted;
+                    let so = enters(sends);
+                    let pool = d.pool;
+                    let more = pool.with_if(posting, so);
+                    d.pool = more;
+                    let old = d.entries[posting];
+                    let entry = entered(old, sends);
+                    d.entries[posting] = entry;
+                    let down = down_after(d.down, to as u8, cut);
+                    d.down = down;
+                    numbers[k] = 0;
+                    continue;
+                }
+                numbers[k] = 11;
+                continue;
+            }
+            Call::Order { posting } => {
+                let pool = d.pool;
+                if pool.has(posting) {
+                    let less = pool.without(posting);
+                    d.pool = less;
+                    let log = d.log;
+                    let longer = log.append(posting);
+                    d.log = longer;
+                    numbers[k] = 0;
+                    continue;
+                }
+                numbers[k] = 12;
+                continue;
+            }
+            Call::Read { site, cut } => {
+                let setup = d.setup;
+                let why = site_refusal(setup.n, d.down, site);
+                if why != 0 {
+                    numbers[k] = why;
+                    continue;
+                }
+                let own = d.sites[site];
+                let place = own.place;
+                let log = d.log;
+                if log.count <= place {
+                    numbers[k] = 13;
+                    continue;
+                }
+                let late = cut_refusal(setup.f, d.down, 0, cut);
+                if late != 0 {
+                    numbers[k] = late;
+                    continue;
+                }
+                let m = log.numbers[place] as usize;
+                let carried = d.entries[m];
+                let next = own.on_entry();
+                let after = entry_to(next, carried, m, cut);
+                d.sites[site] = after;
+                let down = down_after(d.down, site as u8, cut);
+                d.down = down;
+                numbers[k] = 0;
+                continue;
+            }
+            Call::Crash { site } => {
+                let setup = d.setup;
+                let why = site_refusal(setup.n, d.down, site);
+                if why != 0 {
+                    numbers[k] = why;
+                    continue;
+                }
+                let crashes = setup.f as u32;
+                let lost = u8::count_ones(d.down);
+                if crashes <= lost {
+                    numbers[k] = 14;
+                    continue;
+                }
+                let down = with_site(d.down, site as u8);
+                d.down = down;
+                numbers[k] = 0;
+                continue;
+            }
         }
-        let outcome = step(d, call);
-        let answer = outcome.answer;
-        numbers[k] = refusal_of(answer);
-        let next = outcome.board;
-        d = next;
     }
     d
 }

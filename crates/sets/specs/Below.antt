@@ -1,7 +1,8 @@
--- Tests of the numbers below n: whether all pass, whether any does, how many do.
+-- Tests of the numbers below n: whether all pass, whether any does, how many do; and whether all tests of a list pass.
 -- Rests on nothing.
 use Prim.Native.Nat.{ℕ, zero, suc, _+_}
 use mathlib.Core.Bool.{Bool, true, false, _&&_, _||_}
+use mathlib.Core.List.{List, [], _∷_}
 
 -- every number below n passes
 unfoldable pub allBelow : (ℕ → Bool) → ℕ → Bool
@@ -22,3 +23,8 @@ one false = 0
 unfoldable pub count : (ℕ → Bool) → ℕ → ℕ
 count p zero = 0
 count p (suc n) = one (p n) + count p n
+
+-- all tests of a list pass
+unfoldable pub allOf : List Bool → Bool
+allOf [] = true
+allOf (b ∷ l) = b && allOf l

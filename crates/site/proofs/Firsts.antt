@@ -19,7 +19,8 @@ use Rattle.sets.specs.Masks.{hasBit}
 use Rattle.sets.specs.MaskLaws.{has-bit-above, has-bit-set, ones-count}
 use Rattle.site.specs.Sites.{sites}
 use Rattle.site.specs.Sends.{Send}
-use Rattle.site.specs.ByMask.{onlySite, toMask, withSite, withSiteIf, nextSite, firstSites}
+use Rattle.masks.specs.SiteMasks.{onlySite, withSite, withSiteIf, nextSite, firstSites}
+use Rattle.site.specs.ByMask.{toMask}
 use Rattle.site.specs.ByMaskLaws.{only-site, mask-ext}
 
 -- a mask sends as many as it has sites

@@ -19,7 +19,8 @@ use Rattle.site.specs.declared.Tally.{Tally}
 use Rattle.site.specs.declared.Stepped.{Stepped}
 use Rattle.site.specs.Sites.{sites, heardFor, goodFor, siteHeard}
 use Rattle.site.specs.Steps.{ownerOf, majority}
-use Rattle.site.specs.ByMask.{onlySite, everySite, withSite, withSiteIf, reached, late, noStepByMask, offerByMask, firstByMask, stepSecondByMask, secondByMask, finishSends, stepThirdByMask, talliedByMask, thirdByMask, relayTo, deliverByMask}
+use Rattle.masks.specs.SiteMasks.{onlySite, everySite, withSite, withSiteIf, relayTo}
+use Rattle.site.specs.ByMask.{reached, late, noStepByMask, offerByMask, firstByMask, stepSecondByMask, secondByMask, finishSends, stepThirdByMask, talliedByMask, thirdByMask, deliverByMask}
 
 pub only-fits : (p : ℕ) → onlySite p < 2 ^ sites
 unfolding onlySite

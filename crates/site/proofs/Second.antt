@@ -9,7 +9,8 @@ use Rattle.site.specs.declared.Setup.{Setup}
 use Rattle.site.specs.declared.Site.{Site}
 use Rattle.site.specs.declared.Tally.{Tally}
 use Rattle.site.specs.Sites.{heardFor, goodFor, siteHeard}
-use Rattle.site.specs.ByMask.{withSite, withSiteIf, reached, late, noStepByMask, stepSecondByMask, secondByMask}
+use Rattle.masks.specs.SiteMasks.{withSite, withSiteIf}
+use Rattle.site.specs.ByMask.{reached, late, noStepByMask, stepSecondByMask, secondByMask}
 
 module _ (setup : Setup) (table : Table) (site : Site) (tally : Tally) (m from : ℕ) (good : Bool) where
   pub second-late :

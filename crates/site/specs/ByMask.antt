@@ -1,10 +1,10 @@
 -- The steps of a site with what they send as masks of receivers, as the code gives them; ByMaskLaws ties each to its step of Steps.
 -- Rests on Sites, Sends and Steps.
-use Prim.Native.Nat.{ℕ, zero, suc, _+_, _-_, _^_}
+use Prim.Native.Nat.{ℕ, zero, suc, _+_}
 use mathlib.Core.Bool.{Bool, true, false, cond, _&&_, _||_}
 use mathlib.Core.List.{List, [], _∷_, _++_}
 use lib.Dec.{eqb, ltb, leb}
-use lib.Bits.{bitAnd, bitOr}
+use lib.Bits.{bitAnd}
 use lib.Count.{ones}
 use Rattle.sets.specs.declared.Set.{Set}
 use Rattle.sets.specs.Masks.{hasBit}
@@ -12,6 +12,7 @@ use Rattle.sets.specs.Sets.{capacity, emptySet, has, with, withIf, join, meet, 
 use Rattle.posting.specs.declared.Table.{Table}
 use Rattle.posting.specs.declared.Record.{Record}
 use Rattle.posting.specs.Conflicts.{conflictSet}
+use Rattle.masks.specs.SiteMasks.{onlySite, everySite, withSite, withSiteIf, relayTo}
 use Rattle.site.specs.declared.Setup.{Setup}
 use Rattle.site.specs.declared.Site.{Site}
 use Rattle.site.specs.declared.Tally.{Tally}
@@ -20,31 +21,6 @@ use Rattle.site.specs.declared.Stepped.{Stepped}
 use Rattle.site.specs.Sites.{sites, heardFor, goodFor, siteSeen, siteHeard, siteStepped, siteFinished, siteGot, sitePlace}
 use Rattle.site.specs.Sends.{FIRST, SECOND, THIRD, DELIVER, Send, first, second, third, deliver, entry, Step}
 use Rattle.site.specs.Steps.{ownerOf, alone, quorum, majority, delivering, deliveringAll}
-
--- ---- masks of sites
-
--- site p alone; what is no site gives no site
-unfoldable pub onlySite : ℕ → ℕ
-onlySite p = cond (ltb p sites) (2 ^ p) 0
-
--- the sites below n
-unfoldable pub everySite : ℕ → ℕ
-everySite n = cond (ltb n sites) (2 ^ n - 1) 127
-
--- a mask with site p; and if so
-abbrev pub withSite : ℕ → ℕ → ℕ
-withSite mask p = bitOr mask (onlySite p)
-
-abbrev pub withSiteIf : ℕ → ℕ → Bool → ℕ
-withSiteIf mask p so = cond so (withSite mask p) mask
-
--- the first j sites of a mask, of those below n
-abbrev pub nextSite : ℕ → ℕ → ℕ → ℕ → ℕ
-nextSite low mask p j = cond (leb j (ones low)) low (withSiteIf low p (hasBit mask p))
-
-unfoldable pub firstSites : ℕ → ℕ → ℕ → ℕ
-firstSites zero mask j = 0
-firstSites (suc n) mask j = nextSite (firstSites n mask j) mask n j
 
 -- ---- what is sent, as a list
 
@@ -164,10 +140,6 @@ thirdByMask setup site tally m from carried =
     cond (late setup (tally .heard) from (has (site .finished) m)) (noStepByMask site tally)
     (cond (reached setup (after .heard)) (stepThirdByMask setup site after m)
     (noStepByMask site after))
-
--- the sites below n but p; none if p is the owner
-unfoldable pub relayTo : ℕ → ℕ → ℕ → ℕ
-relayTo n p owner = cond (eqb p owner) 0 (bitAnd (everySite n) (255 - onlySite p))
 
 -- DELIVER m at site p
 unfoldable pub deliverByMask : Setup → Table → Site → Tally → ℕ → ℕ → Stepped

@@ -24,7 +24,8 @@ use Rattle.site.specs.declared.Stepped.{Stepped}
 use Rattle.site.specs.Sites.{sites, heardFor, goodFor, plus, plusIf, siteHeard, siteDelivered}
 use Rattle.site.specs.Sends.{DELIVER, Send, deliver, entry, toAll, toOthers, Step}
 use Rattle.site.specs.Steps.{ownerOf, majority, noStep, tallied, onOffer, onFirst, stepSecond, onSecond, stepThird, onThird, onDeliver, onEntry, delivering, deliveringAll, deliveredSite}
-use Rattle.site.specs.ByMask.{ENTRY, reached, late, onlySite, everySite, toMask, sendOf, sendsOf, stepOf, noStepByMask, offerByMask, readSite, deliveringEntry, firstByMask, stepSecondByMask, secondByMask, finishSends, stepThirdByMask, thirdByMask, relayTo, deliverByMask}
+use Rattle.site.specs.ByMask.{ENTRY, reached, late, toMask, sendOf, sendsOf, stepOf, noStepByMask, offerByMask, readSite, deliveringEntry, firstByMask, stepSecondByMask, secondByMask, finishSends, stepThirdByMask, thirdByMask, deliverByMask}
+use Rattle.masks.specs.SiteMasks.{onlySite, everySite, relayTo}
 
 -- ---- masks
 

@@ -18,7 +18,6 @@ use sets::POSTINGS;
 use sets::Set;
 
 pub mod delivery;
-pub mod masks;
 
 // How many sites a board has room for.
 pub const SITES: usize = 7;
@@ -145,18 +144,25 @@ impl Setup {
 }
 
 impl Tally {
-    // The tally with a carried set heard from a site.
+    // The tally with a carried set heard from a site: the set joins the union whether or not it has m.
     fn hear(self, m: usize, from: u8, carried: Set) -> Tally
         ensures { λ r. ⌜ r ≡ talliedByMask self m from carried ⌝ }
     {
-        let contains = carried.has(m);
         let heard = with_site(self.heard, from);
-        let has = with_site_if(self.has, from, contains);
         let old = self.union;
+        if carried.has(m) {
+            let has = with_site(self.has, from);
+            let joined = old.join(carried);
+            return Tally {
+                heard: heard,
+                has: has,
+                union: joined,
+            };
+        }
         let union = old.join(carried);
         Tally {
             heard: heard,
-            has: has,
+            has: self.has,
             union: union,
         }
     }
@@ -229,14 +235,16 @@ impl Site {
         }
     }
 
-    // The senders of SECOND heard for m, and those that said GOOD.
+    // The senders of SECOND heard for m, and those that said GOOD. Here and in `hear` the masks are taken out before they are indexed: an
+    // index into the site would have the compiler keep a copy of the whole site, at every call.
     pub fn heard_for(self, m: usize) -> u8
         ensures { λ r. ⌜ r ≡ heardFor self m ⌝ }
     {
         if POSTINGS <= m {
             return 0;
         }
-        self.heard[m]
+        let masks = self.heard;
+        masks[m]
     }
 
     pub fn good_for(self, m: usize) -> u8
@@ -245,7 +253,8 @@ impl Site {
         if POSTINGS <= m {
             return 0;
         }
-        self.good[m]
+        let masks = self.good;
+        masks[m]
     }
 
     // The site with what it has heard for m.
@@ -255,8 +264,12 @@ impl Site {
         if POSTINGS <= m {
             return self;
         }
-        self.heard[m] = heard;
-        self.good[m] = good;
+        let mut all_heard = self.heard;
+        let mut all_good = self.good;
+        all_heard[m] = heard;
+        all_good[m] = good;
+        self.heard = all_heard;
+        self.good = all_good;
         self
     }
 

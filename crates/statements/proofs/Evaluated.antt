@@ -6,8 +6,8 @@ use mathlib.Core.List.{[], _∷_}
 use lib.ListN.{length}
 use Rattle.sets.specs.Below.{allBelow}
 use Rattle.sets.specs.Masks.{hasBit}
-use Rattle.runfile.specs.RunFile.{hasMark, headerOk, wellFormed}
-use Rattle.runfile.specs.Output.{digits, decimal, refusedLine}
+use Rattle.decoder.specs.RunFile.{hasMark, headerOk, wellFormed}
+use Rattle.printer.specs.Output.{digits, decimal, refusedLine}
 use Rattle.statements.specs.Statement.{accountAt, isBlank, signed, accountLine, accountPart, accountLines, hasNone, siteLine, accountsPart, sitePart, siteParts, sameNumber, sameAccount, sameSite, agree, agreeWith, allAgree, statementText, stated}
 use Rattle.statements.specs.Examples.{siteFigures, threeFigures, threeText}
 

@@ -13,7 +13,7 @@ use mir.Val.{SFits}
 use mir.Facts.{toZ-ofZ}
 use borrow.Author.Tests.{ltb-true, ltb-false, eq-eqb, ne-eqb}
 use Rattle.books.proofs.Signed.{readBack}
-use Rattle.runfile.specs.Output.{decimal}
+use Rattle.printer.specs.Output.{decimal}
 use Rattle.statements.specs.Statement.{isZero, signed, sameNumber}
 
 -- what the machine reads of a number that fits

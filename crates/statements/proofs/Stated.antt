@@ -22,8 +22,8 @@ use Rattle.machine.specs.Figures.{recordOf, figuresOf, figuresOfAll, shown, sho
 use Rattle.drain.specs.declared.Drained.{Drained}
 use Rattle.drain.specs.Drain.{Next, none, event, nextEvent, draining, drained}
 use Rattle.drain.proofs.Loop.{draining-none, draining-event}
-use Rattle.runfile.specs.RunFile.{setupOf, wellFormed, callsOf}
-use Rattle.runfile.specs.Output.{refusedLine}
+use Rattle.decoder.specs.RunFile.{setupOf, wellFormed, callsOf}
+use Rattle.printer.specs.Output.{refusedLine}
 use Rattle.runfile.specs.Program.{StaysSound}
 use Rattle.runfile.proofs.Programs.{startWith}
 use Rattle.statements.specs.Statement.{statementOf, drainLimit, statedRun, statedFrom, stated}

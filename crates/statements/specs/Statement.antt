@@ -1,5 +1,5 @@
 -- What `statement` prints: once the board is quiet, the books of every site, account by account, and whether those that are up agree.
--- Rests on runfile for files and numbers, on machine, drain and books.
+-- Rests on decoder for files, on printer for numbers, on machine, drain and books.
 use Prim.Native.Nat.{ℕ, zero, suc, _+_, _*_}
 use mathlib.Core.Bool.{Bool, false, cond, _&&_, _||_}
 use mathlib.Core.List.{List, [], _∷_, _++_}
@@ -17,8 +17,8 @@ use Rattle.machine.specs.Calls.{refusalOf, starting}
 use Rattle.machine.specs.Runs.{running}
 use Rattle.machine.specs.Figures.{figuresOfAll}
 use Rattle.drain.specs.Drain.{drained}
-use Rattle.runfile.specs.RunFile.{setupOf, wellFormed, callsOf}
-use Rattle.runfile.specs.Output.{decimal, upWord, downWord, newline, refusedLine}
+use Rattle.decoder.specs.RunFile.{setupOf, wellFormed, callsOf}
+use Rattle.printer.specs.Output.{decimal, upWord, downWord, newline, refusedLine}
 
 -- ---- words, as the bytes of the text that the comment shows, with its spaces; a line ends with the byte 10
 

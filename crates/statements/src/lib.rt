@@ -1,22 +1,22 @@
 // The program `statement`: a run file is run, the board drained to quiet, and the books of every site printed.
-// Rests on lines, on runfile for the file and its run, on drain and machine.
+// Rests on lines, on decoder and runfile for the file and its run, on printer for what is printed, on drain and machine.
 ghost use Prim.Native.Nat.{_≤_};
 ghost use mathlib.Core.Path.{_≡_};
 ghost use mathlib.Core.Bool.{true};
 ghost use Rattle.machine.specs.Soundness.{isSound};
-ghost use Rattle.runfile.specs.RunFile.{eventLimit, eventCount, callsOf};
+ghost use Rattle.decoder.specs.RunFile.{eventLimit, eventCount, callsOf};
 ghost use Rattle.runfile.specs.Program.{StaysSound};
-ghost use Rattle.runfile.specs.Writing.{slicePrinted, answerPrinted};
+ghost use Rattle.printer.specs.Writing.{slicePrinted, answerPrinted};
 ghost use Rattle.statements.specs.Statement.{statementOf, statedRun, stated};
+use decoder::file::EVENTS;
+use decoder::file::setup_of;
+use decoder::file::well_formed;
 use drain::drain_sound;
 use lines::print_statement;
 use machine::Board;
-use runfile::Printed;
-use runfile::file::EVENTS;
-use runfile::file::setup_of;
-use runfile::file::well_formed;
-use runfile::print::print_refused;
-use runfile::print::wide;
+use printer::Printed;
+use printer::print::print_refused;
+use printer::print::wide;
 use runfile::run::refusal_of;
 use runfile::run::run_events;
 

@@ -1,8 +1,8 @@
 // The lines of a statement, written into a lent slice: a place past it is counted and nothing is put there.
-// Rests on same for the figures, on runfile's print for texts and numbers, on site for masks.
+// Rests on same for the figures, on printer for texts and numbers, on site for masks.
 ghost use mathlib.Core.Path.{_≡_};
 ghost use mathlib.Core.List.{_++_};
-ghost use Rattle.runfile.specs.Writing.{Put, slicePrinted, answerPrinted};
+ghost use Rattle.printer.specs.Writing.{Put, slicePrinted, answerPrinted};
 ghost use Rattle.statements.specs.Statement.{signed, accountLine, accountPart, accountLines, siteLine, accountsPart, sitePart, siteParts, closingLine, statementText};
 use crate::same::ACCOUNTS;
 use crate::same::account_at;
@@ -11,13 +11,13 @@ use crate::same::has_none;
 use crate::same::is_blank;
 use books::Figures;
 use books::size;
-use runfile::Printed;
-use runfile::print::put;
-use runfile::print::put_number;
-use runfile::print::put_state;
-use runfile::print::put_text;
-use runfile::print::wide;
-use site::masks::has_site;
+use masks::has_site;
+use printer::Printed;
+use printer::print::put;
+use printer::print::put_number;
+use printer::print::put_state;
+use printer::print::put_text;
+use printer::print::wide;
 
 const NEWLINE: u8 = 10;
 

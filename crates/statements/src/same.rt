@@ -1,12 +1,12 @@
 // The figures of an account in a lent slice, and whether the sites that are up show the same.
-// Rests on books, site for masks, runfile for widening.
+// Rests on books, site for masks, printer for widening.
 ghost use Prim.Native.Nat.{_<_};
 ghost use mathlib.Core.Path.{_≡_};
 ghost use Rattle.statements.specs.Statement.{figureAt, accountAt, isBlank, sameNumber, sameAccount, hasNone, sameSite, agree, agreeWith, allAgree};
 use books::Figures;
 use books::size;
-use runfile::print::wide;
-use site::masks::has_site;
+use masks::has_site;
+use printer::print::wide;
 
 // How many accounts there are.
 pub const ACCOUNTS: u8 = 16;

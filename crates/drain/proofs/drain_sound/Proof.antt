@@ -6,7 +6,8 @@ use native.Mathlib.Nat.{sub-zero}
 use native.Mathlib.Omega.{arith}
 use Rattle.sets.specs.Truth.{never}
 use Rattle.sets.specs.Sets.{membersOf}
-use Rattle.machine.specs.declared.Cut.the-variants.{Whole}
+use Rattle.flight.specs.Flights.{cells}
+use Rattle.steps.specs.declared.Cut.the-variants.{Whole}
 use Rattle.machine.specs.declared.Call.the-variants.{Receive, Order, Read}
 use Rattle.machine.proofs.Facts.{Placed}
 use Rattle.machine.proofs.Typed.{is-board}
@@ -14,16 +15,16 @@ use Rattle.machine.proofs.SoundTest.{sound-facts}
 use Rattle.machine.proofs.Passed.{passed-law}
 use Rattle.drain.specs.Drain.{event, nextOrder, nextRead, nextEvent}
 use Rattle.drain.proofs.Nexts.{order-found, order-none, read-found, read-none}
-use Rattle.drain.proofs.Loop.{Going, one-more, message-next, other-next, message-at, receive-does, order-does, read-site, read-place, read-entry, read-does, ends-quiet, ends-spent}
+use Rattle.drain.proofs.Loop.{Floor, Going, one-more, message-next, other-next, receipt-floor, other-floor, message-at, receive-does, order-does, read-site, read-place, read-entry, read-does, ends-quiet, ends-spent}
 use borrow.Author.Needs.{needs}
 use Rattle.drain.proofs.drain_sound.Statement.{statement}
 use Rattle.drain.proofs.drain_sound.Tie as tie
 
 abbrev Inv-loop : tie.InvT-loop
-Inv-loop limit d₀ count₀ d count = Going d₀ limit d count
+Inv-loop limit d₀ count₀ floor₀ d count floor = Going d₀ limit d count floor
 
 abbrev μ-loop : tie.MeasureT-loop
-μ-loop limit d₀ count₀ d count = limit - count
+μ-loop limit d₀ count₀ floor₀ d count floor = limit - count
 
 -- ---- a turn that receives
 
@@ -37,7 +38,7 @@ module _ (c : tie.Else1 Inv-loop μ-loop) where
       nextEvent (c .before .before .before .before .before .before .before .before .before .loop .d) ≡ event (Receive form m from to Whole)
   receives-next =
       let at = c .before .before .before .before .before .before .before .before .before .loop in
-      message-next (at .d) (at .inv .good) _ _ (c .before .before .before .before .before .before .before .up-mask .ensures) (c .before .before .before .before .lowest .ensures) _ _ _ _ (c .before .before .found .given .1)
+      message-next (at .d) (at .inv .good) (at .floor) (at .inv .low) _ _ (c .before .before .before .before .before .before .before .up-mask .ensures) (c .before .before .before .before .lowest-from .ensures) _ _ _ _ (c .before .before .found .given .1)
 
   message-place : let (form, (m, (from, (to, _)))) = message-found in Placed form m from to
   message-place = let at = c .before .before .before .before .before .before .before .before .before .loop in message-at (at .d) (at .inv .good) _ _ _ _ receives-next
@@ -48,7 +49,13 @@ module _ (c : tie.Else1 Inv-loop μ-loop) where
 orders-next : (c : tie.After-lowest-member Inv-loop μ-loop) → let b = c .before .before .before .before .before .before .before .before .before .loop .d in nextEvent b ≡ nextOrder b (membersOf (b .pool))
 orders-next c =
     let at = c .before .before .before .before .before .before .before .before .before .loop in
-    other-next (at .d) (at .inv .good) _ _ (c .before .before .before .before .before .before .before .up-mask .ensures) (c .before .before .before .before .lowest .ensures) (c .before .before .enum-told .given .1)
+    other-next (at .d) (at .inv .good) (at .floor) (at .inv .low) _ _ (c .before .before .before .before .before .before .before .up-mask .ensures) (c .before .before .before .before .lowest-from .ensures) (c .before .before .enum-told .given .1)
+
+-- and no cell has a message for a site that is up
+no-message : (c : tie.After-lowest-member Inv-loop μ-loop) → Floor (c .before .before .before .before .before .before .before .before .before .loop .d) cells
+no-message c =
+    let at = c .before .before .before .before .before .before .before .before .before .loop in
+    other-floor (at .d) (at .inv .good) (at .floor) (at .inv .low) _ _ (c .before .before .before .before .before .before .before .up-mask .ensures) (c .before .before .before .before .lowest-from .ensures) (c .before .before .enum-told .given .1)
 
 -- a posting of the pool is next
 order-next : (c : tie.Then2 Inv-loop μ-loop) → nextEvent (c .before .before .before .before .before .before .before .before .before .before .loop .d) ≡ event (Order (c .before .lowest-member .result))
@@ -70,13 +77,14 @@ loop-holds c =
       within = omega arith;
       good = record { shape = sound; sound = sound-facts (c .args .board) (sound .flight .masks .long) (c .pre); blank = λ e. absurd (never e refl) };
       same = rw sub-zero;
+      low = λ k h. absurd (omega arith);
     }
 
 up-mask-requires : tie.Need-up-mask-requires Inv-loop μ-loop
 up-mask-requires c κs = search needs
 
-lowest-requires : tie.Need-lowest-requires Inv-loop μ-loop
-lowest-requires c κs = search needs
+lowest-from-requires : tie.Need-lowest-from-requires Inv-loop μ-loop
+lowest-from-requires c κs = search needs
 
 enum-known-found : tie.Need-enum-known-found Inv-loop μ-loop
 enum-known-found c = search needs
@@ -156,21 +164,24 @@ mul-entry c = omega (arith, message-place (c .before .before .before .before .be
 element-set-from-entry : tie.Need-element-set-from-entry Inv-loop μ-loop
 element-set-from-entry c = omega (arith, message-place (c .before .before .before .before .before .before .before .before .before .before .before .before .before .before .before .before .before .before .before .before .before .before .before .before .before .before) .posting-below)
 
+lowest-changed-requires : tie.Need-lowest-changed-requires Inv-loop μ-loop
+lowest-changed-requires c κs = search needs
+
 add-count : tie.Need-add-count Inv-loop μ-loop
 add-count c =
-    let at = c .before .before .before .before .before .before .before .before .before .before .before .before .before .before .before .before .before .before .before .before .before .before .before .before .before .before in
+    let at = c .before .before .before .before .before .before .before .before .before .before .before .before .before .before .before .before .before .before .before .before .before .before .before .before .before .before .before in
     let at2 = at .before .before .before .before .before .before .before .before .before in
     omega (arith, at2 .loop .inv .within, at .if1 .left, at2 .before .fits .limit .fits)
 
 loop-less : tie.Need-loop-less Inv-loop μ-loop
 loop-less c =
-    let at = c .before .before .before .before .before .before .before .before .before .before .before .before .before .before .before .before .before .before .before .before .before .before .before .before .before .before in
+    let at = c .before .before .before .before .before .before .before .before .before .before .before .before .before .before .before .before .before .before .before .before .before .before .before .before .before .before .before in
     let at2 = at .before .before .before .before .before .before .before .before .before in
     omega (arith, at2 .loop .inv .within, at .if1 .left)
 
 loop-again : tie.Need-loop-again Inv-loop μ-loop
 loop-again c =
-    let at = c .before .before in
+    let at = c .before .before .before in
     let at2 = at .before .before in
     let at3 = at2 .before .before .before in
     let at4 = at3 .before .before in
@@ -180,10 +191,12 @@ loop-again c =
     let at8 = at7 .before .before .before in
     let at9 = at8 .before .before .before in
     let at10 = at9 .before .before .before .before .before .before .before .before .before in
-    one-more (at10 .before .args .board) (at10 .before .args .limit) (at10 .loop .d) (at10 .loop .count) (at10 .loop .inv) _ (receives-next (c .before .before .before .before .before .before .before .before .before .before .before .before .before .before .before .before .before .before .before .before .before .before .before .before .before .before)) (at9 .if1 .left) _
+    one-more (at10 .before .args .board) (at10 .before .args .limit) (at10 .loop .d) (at10 .loop .count) (at10 .loop .floor) (at10 .loop .inv) _ (receives-next at9) (at9 .if1 .left) _
     (passed-law (at10 .loop .d) _ _ _ _ _ _ _ _ _ _ _ _ _ _ (at6 .receipt .ensures) (at8 .is-good .ensures) (at7 .carried-set .ensures) (at5 .settle .ensures)
-    (at4 .pass-masks .ensures) (at3 .pass-good .ensures) (at2 .before .pass-carried .ensures) (at2 .enters .ensures) (at .with-if .ensures) (c .entered .ensures)
-    ∙ receive-does (at10 .loop .d) (at10 .loop .inv .good) _ _ _ _ (receives-next (c .before .before .before .before .before .before .before .before .before .before .before .before .before .before .before .before .before .before .before .before .before .before .before .before .before .before)))
+    (at4 .pass-masks .ensures) (at3 .pass-good .ensures) (at2 .before .pass-carried .ensures) (at2 .enters .ensures) (at .with-if .ensures) (c .before .entered .ensures)
+    ∙ receive-does (at10 .loop .d) (at10 .loop .inv .good) _ _ _ _ (receives-next at9))
+    _
+    (receipt-floor (at10 .loop .d) (at10 .loop .inv .good) (at10 .loop .floor) (at10 .loop .inv .low) _ _ (at9 .before .before .before .before .before .before .before .up-mask .ensures) (at9 .before .before .before .before .lowest-from .ensures) _ _ _ _ _ _ _ _ (at9 .before .before .found .given .1) (c .lowest-changed .ensures) (at4 .pass-masks .ensures))
 
 enum-told : tie.Need-enum-told Inv-loop μ-loop
 enum-told c = search needs
@@ -213,8 +226,8 @@ loop-again-2 : tie.Need-loop-again-2 Inv-loop μ-loop
 loop-again-2 c =
     let at = c .before .before .before in
     let at2 = at .before .before .before .before .before .before .before .before .before .before .before in
-    one-more (at2 .before .args .board) (at2 .before .args .limit) (at2 .loop .d) (at2 .loop .count) (at2 .loop .inv) _ (order-next (c .before .before .before .before)) (at .if3 .left) _
-    (order-does (at2 .loop .d) (at2 .loop .inv .good) _ (order-next (c .before .before .before .before)) _ _ (c .before .without .ensures) (c .append .ensures))
+    one-more (at2 .before .args .board) (at2 .before .args .limit) (at2 .loop .d) (at2 .loop .count) (at2 .loop .floor) (at2 .loop .inv) _ (order-next (c .before .before .before .before)) (at .if3 .left) _
+    (order-does (at2 .loop .d) (at2 .loop .inv .good) _ (order-next (c .before .before .before .before)) _ _ (c .before .without .ensures) (c .append .ensures)) _ (no-message (c .before .before .before .before .before))
 
 next-reader-requires : tie.Need-next-reader-requires Inv-loop μ-loop
 next-reader-requires c κs = search needs
@@ -299,8 +312,8 @@ loop-again-3 c =
     let at = c .before .before .before .before .before in
     let at2 = at .before .before .before in
     let at3 = at2 .before .before .before .before .before .before .before .before .before .before .before .before .before in
-    one-more (at3 .before .args .board) (at3 .before .args .limit) (at3 .loop .d) (at3 .loop .count) (at3 .loop .inv) _ (reads-next (c .before .before .before .before .before .before .before .before) ∙ read-found (at3 .loop .d) _ (at2 .next-reader .ensures) (at .before .if4 .left)) (at .if5 .left) _
-    (read-does (at3 .loop .d) (at3 .loop .inv .good) _ (reads-next (c .before .before .before .before .before .before .before .before) ∙ read-found (at3 .loop .d) _ (at2 .next-reader .ensures) (at .before .if4 .left)) _ _ (c .before .on-entry .ensures) (c .deliver-entry .ensures))
+    one-more (at3 .before .args .board) (at3 .before .args .limit) (at3 .loop .d) (at3 .loop .count) (at3 .loop .floor) (at3 .loop .inv) _ (reads-next (c .before .before .before .before .before .before .before .before) ∙ read-found (at3 .loop .d) _ (at2 .next-reader .ensures) (at .before .if4 .left)) (at .if5 .left) _
+    (read-does (at3 .loop .d) (at3 .loop .inv .good) _ (reads-next (c .before .before .before .before .before .before .before .before) ∙ read-found (at3 .loop .d) _ (at2 .next-reader .ensures) (at .before .if4 .left)) _ _ (c .before .on-entry .ensures) (c .deliver-entry .ensures)) _ (no-message (c .before .before .before .before .before .before .before .before .before .before .before .before))
 
 returns : tie.Need-returns Inv-loop μ-loop
 returns c =
@@ -308,7 +321,7 @@ returns c =
     let at2 = at .before .before in
     let at3 = at2 .before .before .before in
     let at4 = at3 .before .before in
-    sym (at4 .loop .inv .same ∙ ends-spent (at4 .loop .d) (at4 .loop .inv .good) _ (at4 .loop .count) _ (message-next (at4 .loop .d) (at4 .loop .inv .good) _ _ (at3 .up-mask .ensures) (at2 .lowest .ensures) _ _ _ _ (at .found .given .1)) (c .if1 .taken))
+    sym (at4 .loop .inv .same ∙ ends-spent (at4 .loop .d) (at4 .loop .inv .good) _ (at4 .loop .count) _ (message-next (at4 .loop .d) (at4 .loop .inv .good) (at4 .loop .floor) (at4 .loop .inv .low) _ _ (at3 .up-mask .ensures) (at2 .lowest-from .ensures) _ _ _ _ (at .found .given .1)) (c .if1 .taken))
 
 returns-2 : tie.Need-returns-2 Inv-loop μ-loop
 returns-2 c =
@@ -335,7 +348,7 @@ drain-sound-spec =
     μ-loop
     loop-holds
     up-mask-requires
-    lowest-requires
+    lowest-from-requires
     enum-known-found
     is-good-requires
     carried-set-requires
@@ -362,6 +375,7 @@ drain-sound-spec =
     entered-requires
     mul-entry
     element-set-from-entry
+    lowest-changed-requires
     add-count
     loop-less
     loop-again

@@ -1,6 +1,6 @@
 -- `drain_from` meets its contract.
 -- Assumes nothing.
-use Rattle.runfile.specs.RunFile.{callsOf}
+use Rattle.decoder.specs.RunFile.{callsOf}
 use Rattle.statements.proofs.Stated.{last-sound}
 use Rattle.exports.proofs.DrainLaws.{after-sound, no-room, all-done}
 use borrow.Author.Needs.{needs}

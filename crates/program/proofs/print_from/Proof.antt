@@ -4,7 +4,7 @@ use Prim.Native.Nat.{_≤_}
 use mathlib.Core.Path.{sym}
 use lib.ListN.{length}
 use lib.Seq.{length-take-le}
-use Rattle.runfile.proofs.Writing.{written-within}
+use Rattle.printer.proofs.Writing.{written-within}
 use borrow.Author.Needs.{needs}
 use Rattle.program.proofs.print_from.Statement.{statement}
 use Rattle.program.proofs.print_from.Tie as tie

@@ -1,6 +1,6 @@
 -- `state_from` meets its contract.
 -- Assumes nothing.
-use Rattle.runfile.specs.RunFile.{callsOf}
+use Rattle.decoder.specs.RunFile.{callsOf}
 use Rattle.runfile.proofs.Programs.{printed-as}
 use Rattle.statements.proofs.Stated.{last-sound, quiet-sound, run-stated}
 use borrow.Author.Needs.{needs}

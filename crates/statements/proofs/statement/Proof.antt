@@ -3,7 +3,7 @@
 use mathlib.Core.Path.{_≡_, sym, ap, _∙_}
 use mathlib.Core.Bool.{true}
 use borrow.Author.Needs.{needs}
-use Rattle.runfile.specs.RunFile.{setupOf, wellFormed}
+use Rattle.decoder.specs.RunFile.{setupOf, wellFormed}
 use Rattle.runfile.proofs.Programs.{few-events, printed-as, startWith, start-stays}
 use Rattle.statements.proofs.Stated.{malformed-stated, refused-stated, started-stated}
 use Rattle.statements.proofs.statement.Statement.{statement}

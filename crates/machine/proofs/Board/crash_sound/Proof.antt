@@ -1,15 +1,12 @@
 -- `crash_sound` meets its contract.
 -- Assumes nothing.
 use Prim.Native.Nat.{_<_}
-use mathlib.Core.Path.{_≡_, sym, _∙_}
+use mathlib.Core.Path.{_∙_}
 use native.Mathlib.Omega.{arith}
 use Rattle.site.specs.ByMaskLaws.{only-site}
 use Rattle.machine.proofs.Typed.{is-board}
 use Rattle.machine.proofs.Facts.{few, site-there}
 use Rattle.machine.proofs.Outcomes.{crash-site, crash-spent, crash-done}
-use lib.ListN.{length}
-use Rattle.flight.specs.Flights.{cells}
-use Rattle.machine.proofs.Facts.{few}
 use borrow.Author.Needs.{needs}
 use Rattle.machine.proofs.Board.crash_sound.Statement.{statement}
 use Rattle.machine.proofs.Board.crash_sound.Tie as tie

@@ -7,7 +7,7 @@ use borrow.Author.Needs.{needs}
 use Rattle.flight.specs.Flights.{cells, nothingComes, Bytes}
 use Rattle.machine.specs.QuietParts.{upByte, quiet-parts}
 use Rattle.machine.proofs.Typed.{is-board}
-use Rattle.machine.proofs.sound.Turns.{passed, failed}
+use Rattle.sets.specs.Truth.{passed, failed}
 use Rattle.machine.proofs.Board.is_quiet.Statement.{statement}
 use Rattle.machine.proofs.Board.is_quiet.Tie as tie
 

@@ -7,9 +7,11 @@ use lib.ListN.{length, drop}
 use borrow.Author.Needs.{needs}
 use Rattle.sets.specs.declared.Set.{Set}
 use Rattle.flight.specs.Flights.{cells}
-use Rattle.machine.specs.Soundness.{allOf, isSound}
-use Rattle.machine.specs.SoundParts.{allOffered, partsOf, basis-sites, sound-parts}
-use Rattle.machine.proofs.sound.Turns.{passed, failed}
+use Rattle.sets.specs.Below.{allOf}
+use Rattle.machine.specs.Soundness.{isSound}
+use Rattle.soundness.specs.Parts.{allOffered}
+use Rattle.machine.specs.SoundParts.{partsOf, basis-sites, sound-parts}
+use Rattle.sets.specs.Truth.{passed, failed}
 use Rattle.machine.proofs.Board.is_sound.Statement.{statement}
 use Rattle.machine.proofs.Board.is_sound.Tie as tie
 

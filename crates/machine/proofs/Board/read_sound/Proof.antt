@@ -1,18 +1,39 @@
 -- `read_sound` meets its contract.
 -- Assumes nothing.
 use Prim.Native.Nat.{_<_}
-use mathlib.Core.Path.{_≡_, sym, _∙_}
+use mathlib.Core.Path.{_≡_, refl, _∙_}
 use native.Mathlib.Omega.{arith}
-use Rattle.site.specs.ByMaskLaws.{only-site}
-use Rattle.machine.proofs.Typed.{is-board}
-use mathlib.Core.Path.{refl}
 use lib.Count.{ones}
-use Rattle.machine.specs.Boards.{siteAt}
-use Rattle.machine.proofs.Facts.{few, log-within, logged-below, site-there}
-use Rattle.machine.proofs.Received.{read-site, read-ended, read-late, read-whole-law, read-cut-law}
+use lib.ListN.{length}
+use Rattle.sets.specs.Sets.{capacity}
+use Rattle.flight.specs.Flights.{cells}
+use Rattle.machine.specs.Boards.{siteAt, loggedAt}
+use Rattle.machine.proofs.Typed.{is-board}
+use Rattle.machine.proofs.Facts.{acting, log-within, logged-below}
+use Rattle.machine.proofs.Received.{read-site, read-ended, read-late, read-law}
 use borrow.Author.Needs.{needs}
 use Rattle.machine.proofs.Board.read_sound.Statement.{statement}
 use Rattle.machine.proofs.Board.read_sound.Tie as tie
+
+-- the board has a mask for each cell
+long : (c : tie.Start) → length (c .args .self .flight .masks) ≡ cells
+long c = is-board (c .args .self) _ (c .good .0) .flight .masks .long
+
+-- the site that reads has a place in the array, what it reads is in the log, and names a posting
+acts : (c : tie.Else1) → c .before .before .before .args .site < 7
+acts c =
+    let start = c .before .before .before in
+    acting (start .args .self) (start .pre) (long start) (start .args .site) _ (c .before .site-refusal .ensures) (c .if1 .left)
+
+in-log : (c : tie.Else2) → let args = c .before .before .before .before .before .before .args in siteAt (args .self) (args .site) .place < capacity
+in-log c =
+    let start = c .before .before .before .before .before .before in
+    omega (arith, c .if2 .left, log-within (start .args .self) (long start) (start .pre))
+
+named : (c : tie.Else2) → let args = c .before .before .before .before .before .before .args in loggedAt (args .self) (siteAt (args .self) (args .site) .place) < capacity
+named c =
+    let start = c .before .before .before .before .before .before in
+    logged-below (start .args .self) (long start) (start .pre) _ (c .if2 .left)
 
 site-refusal-requires : tie.Need-site-refusal-requires
 site-refusal-requires c κs = search needs
@@ -21,35 +42,19 @@ refused-requires : tie.Need-refused-requires
 refused-requires c κs = search needs
 
 returns : tie.Need-returns
-returns c =
-    let at = c .before .before in
-    let at2 = at .before .before in
-    c .refused .ensures ∙ read-site (at2 .args .self) (at2 .pre) (at2 .args .site) (at2 .args .cut) _ (at .site-refusal .ensures) (c .before .if1 .taken)
+returns c = let start = c .before .before .before .before in c .refused .ensures ∙ read-site (start .args .self) (start .pre) (start .args .site) (start .args .cut) _ (c .before .before .site-refusal .ensures) (c .before .if1 .taken)
 
 mul-own : tie.Need-mul-own
-mul-own c =
-    let at = c .before .before .before in
-    let sound-long = is-board (at .args .self) _ (at .good .0) .flight .masks .long in
-    let sites-few = few (at .args .self) sound-long (at .pre) in
-    let there = site-there (at .args .self .setup .n) (at .args .self .down) (at .args .site) _ (c .before .site-refusal .ensures) (c .if1 .left) in
-    omega (arith, there, sites-few)
+mul-own c = omega (arith, acts c)
 
 element-copy-out-own : tie.Need-element-copy-out-own
-element-copy-out-own c =
-    let at = c .before .before .before in
-    let sound-long = is-board (at .args .self) _ (at .good .0) .flight .masks .long in
-    let sites-few = few (at .args .self) sound-long (at .pre) in
-    let there = site-there (at .args .self .setup .n) (at .args .self .down) (at .args .site) _ (c .before .site-refusal .ensures) (c .if1 .left) in
-    omega (arith, there, sites-few)
+element-copy-out-own c = acts c
 
 refused-requires-2 : tie.Need-refused-requires-2
 refused-requires-2 c κs = search needs
 
 returns-2 : tie.Need-returns-2
-returns-2 c =
-    let at = c .before .before .before .before in
-    let at2 = at .before .before .before in
-    c .refused2 .ensures ∙ read-ended (at2 .args .self) (at2 .pre) (at2 .args .site) (at2 .args .cut) _ (at .before .site-refusal .ensures) (at .if1 .left) (c .before .if2 .taken)
+returns-2 c = let start = c .before .before .before .before .before .before .before in let acted = c .before .before .before .before in c .refused2 .ensures ∙ read-ended (start .args .self) (start .pre) (start .args .site) (start .args .cut) _ (acted .before .site-refusal .ensures) (acted .if1 .left) (c .before .if2 .taken)
 
 cut-refusal-requires : tie.Need-cut-refusal-requires
 cut-refusal-requires c κs = search needs
@@ -58,133 +63,50 @@ refused-requires-3 : tie.Need-refused-requires-3
 refused-requires-3 c κs = search needs
 
 returns-3 : tie.Need-returns-3
-returns-3 c =
-    let at = c .before .before in
-    let at2 = at .before .before .before .before in
-    let at3 = at2 .before .before .before in
-    c .refused3 .ensures ∙ read-late (at3 .args .self) (at3 .pre) (at3 .args .site) (at3 .args .cut) _ (at2 .before .site-refusal .ensures) (at2 .if1 .left) (at .before .if2 .left) _ (at .cut-refusal .ensures ∙ unfold ones in refl) (c .before .if3 .taken)
+returns-3 c = let start = c .before .before .before .before .before .before .before .before .before in let acted = c .before .before .before .before .before .before in c .refused3 .ensures ∙ read-late (start .args .self) (start .pre) (start .args .site) (start .args .cut) _ (acted .before .site-refusal .ensures) (acted .if1 .left) (c .before .before .before .if2 .left) _ (c .before .before .cut-refusal .ensures ∙ unfold ones in refl) (c .before .if3 .taken)
 
 element-copy-out-m : tie.Need-element-copy-out-m
-element-copy-out-m c =
-    let at = c .before .before in
-    let at2 = at .before .before .before .before .before .before in
-    let sound-long = is-board (at2 .args .self) _ (at2 .good .0) .flight .masks .long in
-    let within = log-within (at2 .args .self) sound-long (at2 .pre) in
-    omega (arith, at .if2 .left, within)
+element-copy-out-m c = omega (arith, in-log (c .before .before))
 
 cast-m : tie.Need-cast-m
-cast-m c =
-    let at = c .before .before .before in
-    let at2 = at .before .before .before .before .before .before in
-    let sound-long = is-board (at2 .args .self) _ (at2 .good .0) .flight .masks .long in
-    let below = logged-below (at2 .args .self) sound-long (at2 .pre) (siteAt (at2 .args .self) (at2 .args .site) .place) (at .if2 .left) in
-    omega (arith, below)
+cast-m c = omega (arith, named (c .before .before .before))
 
 mul-carried : tie.Need-mul-carried
-mul-carried c =
-    let at = c .before .before .before in
-    let at2 = at .before .before .before .before .before .before in
-    let sound-long = is-board (at2 .args .self) _ (at2 .good .0) .flight .masks .long in
-    let below = logged-below (at2 .args .self) sound-long (at2 .pre) (siteAt (at2 .args .self) (at2 .args .site) .place) (at .if2 .left) in
-    omega (arith, below)
+mul-carried c = omega (arith, named (c .before .before .before))
 
 element-copy-out-carried : tie.Need-element-copy-out-carried
-element-copy-out-carried c =
-    let at = c .before .before .before in
-    let at2 = at .before .before .before .before .before .before in
-    let sound-long = is-board (at2 .args .self) _ (at2 .good .0) .flight .masks .long in
-    let below = logged-below (at2 .args .self) sound-long (at2 .pre) (siteAt (at2 .args .self) (at2 .args .site) .place) (at .if2 .left) in
-    omega (arith, below)
+element-copy-out-carried c = named (c .before .before .before)
 
 on-entry-requires : tie.Need-on-entry-requires
 on-entry-requires c κs = search needs
 
-enum-told : tie.Need-enum-told
-enum-told c = search needs
+entry-to-requires : tie.Need-entry-to-requires
+entry-to-requires c κs = search needs
 
-deliver-entry-requires : tie.Need-deliver-entry-requires
-deliver-entry-requires c κs = search needs
+mul-after : tie.Need-mul-after
+mul-after c = omega (arith, acts (c .before .before .before .before .before .before .before .before .before))
 
-mul-t28 : tie.Need-mul-t28
-mul-t28 c =
-    let at = c .before .before .before .before .before .before .before .before .before .before .before in
-    let at2 = at .before .before .before in
-    let sound-long = is-board (at2 .args .self) _ (at2 .good .0) .flight .masks .long in
-    let sites-few = few (at2 .args .self) sound-long (at2 .pre) in
-    let there = site-there (at2 .args .self .setup .n) (at2 .args .self .down) (at2 .args .site) _ (at .before .site-refusal .ensures) (at .if1 .left) in
-    omega (arith, there, sites-few)
+element-set-from-after : tie.Need-element-set-from-after
+element-set-from-after c = omega (arith, acts (c .before .before .before .before .before .before .before .before .before))
 
-element-set-from-d : tie.Need-element-set-from-d
-element-set-from-d c =
-    let at = c .before .before .before .before .before .before .before .before .before .before .before in
-    let at2 = at .before .before .before in
-    let sound-long = is-board (at2 .args .self) _ (at2 .good .0) .flight .masks .long in
-    let sites-few = few (at2 .args .self) sound-long (at2 .pre) in
-    let there = site-there (at2 .args .self .setup .n) (at2 .args .self .down) (at2 .args .site) _ (at .before .site-refusal .ensures) (at .if1 .left) in
-    omega (arith, there, sites-few)
+cast-down-after : tie.Need-cast-down-after
+cast-down-after c = omega (arith, acts (c .before .before .before .before .before .before .before .before .before))
+
+down-after-requires : tie.Need-down-after-requires
+down-after-requires c κs = search needs
 
 done-requires : tie.Need-done-requires
 done-requires c κs = search needs
 
 returns-4 : tie.Need-returns-4
 returns-4 c =
-    let at = c .before .before in
-    let at2 = at .before .before in
-    let at3 = at2 .before .before .before in
-    let at4 = at3 .before .before in
-    let at5 = at4 .before .before .before in
-    let at6 = at5 .before .before .before in
-    c .done .ensures ∙ read-whole-law (at6 .args .self) (at6 .pre) (at6 .args .site) (at6 .args .cut) _ (at5 .before .site-refusal .ensures) (at5 .if1 .left) (at4 .if2 .left) _ (at3 .before .cut-refusal .ensures ∙ unfold ones in refl) (log-within (at6 .args .self) (is-board (at6 .args .self) _ (at6 .good .0) .flight .masks .long) (at6 .pre)) (at3 .if3 .left) _ (at2 .on-entry .ensures) _ (at .enum-told .given .1) (c .before .deliver-entry .ensures)
-
-enum-known-cut : tie.Need-enum-known-cut
-enum-known-cut c = search needs
-
-mul-next : tie.Need-mul-next
-mul-next c =
-    let at = c .before .before .before .before .before .before .before .before .before .before .before in
-    let at2 = at .before .before .before in
-    let sound-long = is-board (at2 .args .self) _ (at2 .good .0) .flight .masks .long in
-    let sites-few = few (at2 .args .self) sound-long (at2 .pre) in
-    let there = site-there (at2 .args .self .setup .n) (at2 .args .self .down) (at2 .args .site) _ (at .before .site-refusal .ensures) (at .if1 .left) in
-    omega (arith, there, sites-few)
-
-element-set-from-next : tie.Need-element-set-from-next
-element-set-from-next c =
-    let at = c .before .before .before .before .before .before .before .before .before .before .before in
-    let at2 = at .before .before .before in
-    let sound-long = is-board (at2 .args .self) _ (at2 .good .0) .flight .masks .long in
-    let sites-few = few (at2 .args .self) sound-long (at2 .pre) in
-    let there = site-there (at2 .args .self .setup .n) (at2 .args .self .down) (at2 .args .site) _ (at .before .site-refusal .ensures) (at .if1 .left) in
-    omega (arith, there, sites-few)
-
-cast-with-site : tie.Need-cast-with-site
-cast-with-site c =
-    let at = c .before .before .before .before .before .before .before .before .before .before .before in
-    let at2 = at .before .before .before in
-    let sound-long = is-board (at2 .args .self) _ (at2 .good .0) .flight .masks .long in
-    let sites-few = few (at2 .args .self) sound-long (at2 .pre) in
-    let there = site-there (at2 .args .self .setup .n) (at2 .args .self .down) (at2 .args .site) _ (at .before .site-refusal .ensures) (at .if1 .left) in
-    omega (arith, there, sites-few)
-
-with-site-requires : tie.Need-with-site-requires
-with-site-requires c κs = search needs
-
-done-requires-2 : tie.Need-done-requires-2
-done-requires-2 c κs = search needs
-
-returns-5 : tie.Need-returns-5
-returns-5 c =
-    let at = c .before .before .before in
-    let at2 = at .before .before in
-    let at3 = at2 .before .before .before in
-    let at4 = at3 .before .before in
-    let at5 = at4 .before .before .before in
-    let at6 = at5 .before .before .before in
-    let sound-long = is-board (at6 .args .self) _ (at6 .good .0) .flight .masks .long in
-    let sites-few = few (at6 .args .self) sound-long (at6 .pre) in
-    let there = site-there (at6 .args .self .setup .n) (at6 .args .self .down) (at6 .args .site) _ (at5 .before .site-refusal .ensures) (at5 .if1 .left) in
-    let below : at6 .args .site < 7 = omega (arith, there, sites-few) in
-    c .done2 .ensures ∙ read-cut-law (at6 .args .self) (at6 .pre) (at6 .args .site) (at6 .args .cut) _ (at5 .before .site-refusal .ensures) (at5 .if1 .left) (at4 .if2 .left) _ (at3 .before .cut-refusal .ensures ∙ unfold ones in refl) (log-within (at6 .args .self) (is-board (at6 .args .self) _ (at6 .good .0) .flight .masks .long) (at6 .pre)) (at3 .if3 .left) _ (at2 .on-entry .ensures) _ _ (at .cut .given .1) (c .before .with-site .ensures ∙ rw (only-site (at6 .args .site) below))
+    let start = c .before .before .before .before .before .before .before .before .before .before .before .before .before .before in
+    let acted = c .before .before .before .before .before .before .before .before .before .before .before in
+    let self = start .args .self in
+    c .done .ensures
+    ∙ read-law self (start .pre) (start .args .site) (start .args .cut) _ (acted .before .site-refusal .ensures) (acted .if1 .left) (c .before .before .before .before .before .before .before .before .if2 .left) _
+    (c .before .before .before .before .before .before .before .cut-refusal .ensures ∙ unfold ones in refl) (log-within self (long start) (start .pre)) (c .before .before .before .before .before .before .if3 .left)
+    _ (c .before .before .before .on-entry .ensures) (acts acted) _ _ (c .before .before .entry-to .ensures) (c .before .down-after .ensures)
 
 pub read-sound-spec : {M : Type 1} → statement M
 read-sound-spec =
@@ -205,16 +127,10 @@ read-sound-spec =
     mul-carried
     element-copy-out-carried
     on-entry-requires
-    enum-told
-    deliver-entry-requires
-    mul-t28
-    element-set-from-d
+    entry-to-requires
+    mul-after
+    element-set-from-after
+    cast-down-after
+    down-after-requires
     done-requires
-    returns-4
-    enum-known-cut
-    mul-next
-    element-set-from-next
-    cast-with-site
-    with-site-requires
-    done-requires-2
-    returns-5)
+    returns-4)

@@ -1,14 +1,11 @@
 -- `receive_sound` meets its contract.
 -- Assumes nothing.
-use Prim.Native.Nat.{_<_}
-use mathlib.Core.Path.{_≡_, sym, _∙_}
+use mathlib.Core.Path.{sym, _∙_}
 use native.Mathlib.Omega.{arith}
-use Rattle.site.specs.ByMaskLaws.{only-site}
 use Rattle.machine.proofs.Typed.{is-board}
 use Rattle.machine.proofs.Facts.{message-in, message-placed}
 use Rattle.machine.proofs.Placed.{receipt-fits, receipt-law}
 use Rattle.machine.proofs.Received.{receive-site, receive-none, receive-late, receive-done, taken-law}
-use Rattle.machine.proofs.Placed.{receipt-fits}
 use borrow.Author.Needs.{needs}
 use Rattle.machine.proofs.Board.receive_sound.Statement.{statement}
 use Rattle.machine.proofs.Board.receive_sound.Tie as tie

@@ -10,11 +10,9 @@ use borrow.Author.Tests.{le-leb}
 use Rattle.sets.specs.Masks.{hasBit}
 use Rattle.sets.specs.Truth.{or-left, or-right}
 use Rattle.sets.specs.Below.{allBelow}
-use Rattle.sets.specs.BelowLaws.{all-fails}
+use Rattle.sets.specs.BelowLaws.{all-fails, all-none, all-more, all-end}
 use Rattle.site.specs.Sites.{sites, noSite}
-use Rattle.machine.specs.SoundParts.{all-none}
 use Rattle.machine.specs.QuietParts.{hasRead, allRead, read-none, behind, past}
-use Rattle.machine.proofs.sound.Turns.{all-more, all-end}
 use Rattle.machine.proofs.quiet.all_read.Statement.{statement}
 use Rattle.machine.proofs.quiet.all_read.Tie as tie
 

@@ -5,9 +5,9 @@ use mathlib.Core.Path.{sym}
 use mathlib.Core.Bool.{and-true}
 use lib.Dec.{ltb}
 use borrow.Author.Needs.{needs}
-use Rattle.machine.specs.Soundness.{allOf}
+use Rattle.sets.specs.Below.{allOf}
 use Rattle.machine.specs.SoundParts.{basisSound}
-use Rattle.machine.proofs.sound.Turns.{passed, failed}
+use Rattle.sets.specs.Truth.{passed, failed}
 use Rattle.machine.proofs.sound.basis_ok.Statement.{statement}
 use Rattle.machine.proofs.sound.basis_ok.Tie as tie
 

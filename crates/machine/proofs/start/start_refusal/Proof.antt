@@ -3,7 +3,7 @@
 use mathlib.Core.Path.{sym, _∙_}
 use native.Mathlib.Omega.{arith}
 use borrow.Author.Tests.{le-leb, lt-leb, le-ltb, lt-ltb}
-use Rattle.machine.specs.ByMask.{firstCause}
+use Rattle.steps.specs.Causes.{firstCause}
 use borrow.Author.Needs.{needs}
 use Rattle.machine.proofs.start.start_refusal.Statement.{statement}
 use Rattle.machine.proofs.start.start_refusal.Tie as tie

@@ -5,7 +5,7 @@ use mathlib.Core.Path.{_≡_, sym, ap, _∙_}
 use mathlib.Core.Bool.{true}
 use mathlib.Core.List.{List}
 use borrow.Author.Needs.{needs}
-use Rattle.runfile.specs.RunFile.{setupOf, wellFormed}
+use Rattle.decoder.specs.RunFile.{setupOf, wellFormed}
 use Rattle.runfile.proofs.Programs.{few-events, printed-as, malformed-printed, startWith, start-refused, start-run, start-stays}
 use Rattle.runfile.proofs.run.run_file.Statement.{statement}
 use Rattle.runfile.proofs.run.run_file.Tie as tie

@@ -5,7 +5,7 @@ use mathlib.Core.Path.{sym}
 use lib.ListN.{length, take}
 use lib.Seq.{length-take-le}
 use borrow.Author.Needs.{needs}
-use Rattle.runfile.specs.RunFile.{callsOf}
+use Rattle.decoder.specs.RunFile.{callsOf}
 use Rattle.runfile.proofs.Programs.{run-printed, printed-as}
 use Rattle.runfile.proofs.run.run_from.Statement.{statement}
 use Rattle.runfile.proofs.run.run_from.Tie as tie

@@ -11,14 +11,14 @@ use Rattle.site.proofs.Site.good_for.Tie as tie
 returns : tie.Need-returns
 returns c =
     let args = c .before .args in
-    let long : length (args .t1 .good) ≡ capacity = search needs in
-    sym (List·getD-eq-default (args .t1 .good) 0 {n = args .m} (omega arith))
+    let long : length (args .self .good) ≡ capacity = search needs in
+    sym (List·getD-eq-default (args .self .good) 0 {n = args .m} (omega arith))
 
-element-copy-out-result : tie.Need-element-copy-out-result
-element-copy-out-result c = search needs
+array-read-result : tie.Need-array-read-result
+array-read-result c = search needs
 
 returns-2 : tie.Need-returns-2
 returns-2 c = search needs
 
 pub good-for-spec : {M : Type 1} → statement M
-good-for-spec = tie.close (tie.spec returns element-copy-out-result returns-2)
+good-for-spec = tie.close (tie.spec returns array-read-result returns-2)

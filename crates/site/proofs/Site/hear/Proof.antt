@@ -12,18 +12,18 @@ use Rattle.site.proofs.Site.hear.Tie as tie
 returns : tie.Need-returns
 returns c =
     let args = c .before .args in
-    let long : length (args .t1 .heard) ≡ capacity = search needs in
-    let long2 : length (args .t1 .good) ≡ capacity = search needs in
-    rw (set-out (args .t1 .heard) (args .m) (args .heard) (omega arith), set-out (args .t1 .good) (args .m) (args .good) (omega arith))
+    let long : length (args .self .heard) ≡ capacity = search needs in
+    let long2 : length (args .self .good) ≡ capacity = search needs in
+    rw (set-out (args .self .heard) (args .m) (args .heard) (omega arith), set-out (args .self .good) (args .m) (args .good) (omega arith))
 
-element-write-self : tie.Need-element-write-self
-element-write-self c = search needs
+array-write-all-heard : tie.Need-array-write-all-heard
+array-write-all-heard c = search needs
 
-element-write-self-2 : tie.Need-element-write-self-2
-element-write-self-2 c = search needs
+array-write-all-good : tie.Need-array-write-all-good
+array-write-all-good c = search needs
 
 returns-2 : tie.Need-returns-2
 returns-2 c = search needs
 
 pub hear-spec : {M : Type 1} → statement M
-hear-spec = tie.close (tie.spec returns element-write-self element-write-self-2 returns-2)
+hear-spec = tie.close (tie.spec returns array-write-all-heard array-write-all-good returns-2)

@@ -5,7 +5,7 @@ use mathlib.Core.List.{_++_}
 use lib.IntN.{ℤ}
 use Rattle.statements.proofs.Figures.{read-is}
 use Rattle.statements.specs.Statement.{positionWord, rateWord, calledWord, settledWord, signed, accountLine}
-use Rattle.runfile.proofs.Writing.{then-put, put-as, put-length}
+use Rattle.printer.proofs.Writing.{then-put, put-as, put-length}
 use borrow.Author.Needs.{needs}
 use Rattle.statements.proofs.lines.account_line.Statement.{statement}
 use Rattle.statements.proofs.lines.account_line.Tie as tie

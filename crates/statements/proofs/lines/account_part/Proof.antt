@@ -2,7 +2,7 @@
 -- Assumes nothing.
 use mathlib.Core.Path.{sym, _∙_}
 use Rattle.statements.specs.Statement.{accountPart}
-use Rattle.runfile.proofs.Writing.{nothing-put}
+use Rattle.printer.proofs.Writing.{nothing-put}
 use borrow.Author.Needs.{needs}
 use Rattle.statements.proofs.lines.account_part.Statement.{statement}
 use Rattle.statements.proofs.lines.account_part.Tie as tie

@@ -2,7 +2,7 @@
 -- Assumes nothing.
 use native.Mathlib.Omega.{arith}
 use Rattle.statements.specs.Statement.{statementText}
-use Rattle.runfile.proofs.Writing.{too-short, written}
+use Rattle.printer.proofs.Writing.{too-short, written}
 use borrow.Author.Needs.{needs}
 use Rattle.statements.proofs.lines.print_statement.Statement.{statement}
 use Rattle.statements.proofs.lines.print_statement.Tie as tie

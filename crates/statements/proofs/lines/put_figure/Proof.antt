@@ -3,7 +3,7 @@
 use mathlib.Core.Path.{ap}
 use mir.Facts.{toZ-ofZ}
 use Rattle.statements.specs.Statement.{signed}
-use Rattle.runfile.proofs.Writing.{then-put, put-as}
+use Rattle.printer.proofs.Writing.{then-put, put-as}
 use borrow.Author.Needs.{needs}
 use Rattle.statements.proofs.lines.put_figure.Statement.{statement}
 use Rattle.statements.proofs.lines.put_figure.Tie as tie

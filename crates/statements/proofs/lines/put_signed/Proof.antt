@@ -5,8 +5,8 @@ use mathlib.Core.Path.{ap, _∙_}
 use mathlib.Core.List.{[], _∷_, _++_}
 use lib.IntN.{natAbs}
 use mir.Facts.{toZ-ofZ}
-use Rattle.runfile.specs.Output.{decimal}
-use Rattle.runfile.proofs.Writing.{then-put, put-as}
+use Rattle.printer.specs.Output.{decimal}
+use Rattle.printer.proofs.Writing.{then-put, put-as}
 use Rattle.statements.proofs.Figures.{signed-negative, signed-other}
 use borrow.Author.Needs.{needs}
 use Rattle.statements.proofs.lines.put_signed.Statement.{statement}

@@ -1,7 +1,7 @@
 -- `site_line` meets its contract.
 -- Assumes nothing.
 use Rattle.statements.specs.Statement.{siteLine}
-use Rattle.runfile.proofs.Writing.{then-put}
+use Rattle.printer.proofs.Writing.{then-put}
 use borrow.Author.Needs.{needs}
 use Rattle.statements.proofs.lines.site_line.Statement.{statement}
 use Rattle.statements.proofs.lines.site_line.Tie as tie

@@ -1,7 +1,7 @@
 -- `site_part` meets its contract.
 -- Assumes nothing.
 use Rattle.statements.specs.Statement.{sitePart}
-use Rattle.runfile.proofs.Writing.{then-put}
+use Rattle.printer.proofs.Writing.{then-put}
 use borrow.Author.Needs.{needs}
 use Rattle.statements.proofs.lines.site_part.Statement.{statement}
 use Rattle.statements.proofs.lines.site_part.Tie as tie

@@ -4,8 +4,8 @@ use Prim.Native.Nat.{_≤_, _-_}
 use native.Mathlib.Numerals.{add-one}
 use native.Mathlib.Omega.{arith}
 use mathlib.Core.Path.{_≡_, ap}
-use Rattle.runfile.specs.Writing.{Put}
-use Rattle.runfile.proofs.Writing.{nothing-put, then-put, put-as, put-length}
+use Rattle.printer.specs.Writing.{Put}
+use Rattle.printer.proofs.Writing.{nothing-put, then-put, put-as, put-length}
 use Rattle.statements.specs.Statement.{siteParts}
 use borrow.Author.Needs.{needs}
 use Rattle.statements.proofs.lines.site_parts.Statement.{statement}

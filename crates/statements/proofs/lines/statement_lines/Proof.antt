@@ -1,7 +1,7 @@
 -- `statement_lines` meets its contract.
 -- Assumes nothing.
 use Rattle.statements.specs.Statement.{statementText}
-use Rattle.runfile.proofs.Writing.{then-put}
+use Rattle.printer.proofs.Writing.{then-put}
 use borrow.Author.Needs.{needs}
 use Rattle.statements.proofs.lines.statement_lines.Statement.{statement}
 use Rattle.statements.proofs.lines.statement_lines.Tie as tie

@@ -6,9 +6,8 @@ use Prim.Native.Nat.{_≤_, _-_}
 use mathlib.Core.Bool.{true}
 use native.Mathlib.Omega.{arith}
 use Rattle.sets.specs.Below.{allBelow}
-use Rattle.sets.specs.BelowLaws.{all-fails}
-use Rattle.machine.specs.SoundParts.{all-none}
-use Rattle.machine.proofs.sound.Turns.{all-more, all-end, passed, failed}
+use Rattle.sets.specs.BelowLaws.{all-fails, all-none, all-more, all-end}
+use Rattle.sets.specs.Truth.{passed, failed}
 use borrow.Author.Needs.{needs}
 use Rattle.statements.proofs.same.all_agree.Statement.{statement}
 use Rattle.statements.proofs.same.all_agree.Tie as tie

@@ -4,7 +4,7 @@ use mathlib.Core.Path.{_≡_, ap₂, _∙_}
 use mathlib.Core.Bool.{true, false}
 use Rattle.statements.proofs.Figures.{read-is}
 use Rattle.statements.specs.Statement.{sameNumber, sameAccount}
-use Rattle.machine.proofs.sound.Turns.{passed, failed}
+use Rattle.sets.specs.Truth.{passed, failed}
 use borrow.Author.Needs.{needs}
 use Rattle.statements.proofs.same.same_account.Statement.{statement}
 use Rattle.statements.proofs.same.same_account.Tie as tie

@@ -1,3 +1,0 @@
--- What the proofs of the functions of src/sound.rt share.
--- Rests on the specs.
-pub mod Turns

@@ -1,0 +1,122 @@
+-- Laws of writing: one text after another is their concatenation; a text that fits stands at the beginning, one that does not is seen by its place.
+-- Rests on Writing. Assumes nothing.
+use Prim.Native.Nat.{ℕ, suc, min, _+_, _<_, _≤_}
+use mathlib.Core.Path.{_≡_, refl, sym, ap, _∙_}
+use mathlib.Core.Logic.{inl, inr}
+use mathlib.Core.Bool.{cond}
+use mathlib.Core.List.{List, [], _∷_, _++_}
+use native.Mathlib.Numerals.{add-one}
+use native.Mathlib.Omega.{arith}
+use lib.Dec.{ltb, leb}
+use lib.ListN.{length, drop, set, length-set, length-append}
+use lib.Seq.{sets, sets-eq}
+use borrow.Author.Tests.{lt-ltb, ltb-true, ltb-false, le-leb, lt-leb}
+use Rattle.sets.specs.Truth.{test}
+use Rattle.printer.specs.declared.Printed.{Printed}
+use Rattle.printer.specs.declared.Printed.the-variants.{Written, Short}
+use Rattle.printer.specs.Writing.{lastPlace, next, after, putting, Put, slicePrinted, answerPrinted}
+
+-- ---- one text after another
+
+after-append : (a b : List ℕ) (at : ℕ) → after at (a ++ b) ≡ after (after at a) b
+unfolding after
+after-append [] b at = refl
+after-append (x ∷ a) b at = after-append a b (next at)
+
+putting-append : (a b s : List ℕ) (at : ℕ) → putting s at (a ++ b) ≡ putting (putting s at a) (after at a) b
+unfolding after putting
+putting-append [] b s at = refl
+putting-append (x ∷ a) b s at = putting-append a b (set s at x) (next at)
+
+-- Writing a text and then another after it is writing their concatenation.
+pub then-put : {a b : List ℕ} {at p q : ℕ} {s t u : List ℕ} → Put a at s t p → Put b p t u q → Put (a ++ b) at s u q
+then-put {a} {b} {at} {p} {q} {s} {t} {u} x y = record {
+  moved = y .moved ∙ ap (λ (n : ℕ). after n b) (x .moved) ∙ sym (after-append a b at);
+  holds = y .holds ∙ rw (x .moved, x .holds) (sym (putting-append a b s at));
+}
+
+pub nothing-put : (at : ℕ) (s : List ℕ) → Put [] at s s at
+unfolding after putting
+nothing-put at s = record { moved = refl; holds = refl }
+
+pub put-as : {a b : List ℕ} {at p : ℕ} {s t : List ℕ} → a ≡ b → Put a at s t p → Put b at s t p
+put-as {a} {b} {at} {p} {s} {t} e x = rw e at x
+
+length-putting : (a s : List ℕ) (at : ℕ) → length (putting s at a) ≡ length s
+unfolding putting
+length-putting [] s at = refl
+length-putting (x ∷ a) s at = length-putting a (set s at x) (next at) ∙ length-set s at x
+
+-- the slice keeps its length
+pub put-length : {a : List ℕ} {at p : ℕ} {s t : List ℕ} → Put a at s t p → length t ≡ length s
+put-length {a} {at} {p} {s} {t} x = ap length (x .holds) ∙ length-putting a s at
+
+-- ---- where a text ends
+
+after-is : (a : List ℕ) (at : ℕ) → at ≤ lastPlace → after at a ≡ min (at + length a) lastPlace
+unfolding after
+after-is [] at h = omega arith
+after-is (x ∷ a) at h = elim (test (ltb at lastPlace)) [
+  | inl t ↦ rw t (let l : at < lastPlace = ltb-true at lastPlace t in omega (arith, after-is a (at + 1) (omega arith)))
+  | inr f ↦ rw f (let l : lastPlace ≤ at = ltb-false at lastPlace f in omega (arith, after-is a at h))
+]
+
+putting-sets : (a s : List ℕ) (at : ℕ) → at + length a ≤ lastPlace → putting s at a ≡ sets s at a
+unfolding putting
+putting-sets [] s at h = refl
+putting-sets (x ∷ a) s at h =
+    let l : at < lastPlace = omega arith in
+    rw (lt-ltb at lastPlace l, add-one) (putting-sets a (set s at x) (suc at) (omega arith))
+
+-- ---- a text that fits, and one that does not
+
+-- nothing is put into no bytes
+none-held : (a : List ℕ) (at : ℕ) → putting [] at a ≡ []
+unfolding putting
+none-held [] at = refl
+none-held (x ∷ a) at = none-held a (next at)
+
+-- the text was counted on no bytes of the slice, which are t after that
+module _ (text s t : List ℕ) (needed : ℕ) (counted : Put text 0 [] t needed) where
+  stays : t ++ s ≡ s
+  stays = ap (λ (l : List ℕ). l ++ s) (counted .holds ∙ none-held text 0)
+
+  place-is : needed ≡ min (0 + length text) lastPlace
+  place-is = counted .moved ∙ after-is text 0 (omega arith)
+
+  pub too-short : length (t ++ s) < needed → (Short ≡ answerPrinted text s) × (t ++ s ≡ slicePrinted text s)
+  unfolding answerPrinted slicePrinted
+  too-short h = rw (lt-leb (length text) (length s) (omega (arith, place-is, ap length stays))) (refl, stays)
+
+  pub written : (u : List ℕ) (end : ℕ) → length s < lastPlace → needed ≤ length (t ++ s) → Put text 0 (t ++ s) u end
+      → (Written end ≡ answerPrinted text s) × (u ≡ slicePrinted text s)
+  unfolding answerPrinted slicePrinted
+  written u end room h x =
+      let l : length text ≤ length s = omega (arith, place-is, ap length stays) in
+      let n : 0 + length text ≡ length text = omega arith in
+      rw (le-leb (length text) (length s) l) (
+        ap Written (omega (arith, x .moved, after-is text 0 (omega arith))),
+        x .holds
+            ∙ ap (λ (r : List ℕ). putting r 0 text) stays
+            ∙ putting-sets text s 0 (omega arith)
+            ∙ sets-eq text s 0 (omega arith)
+            ∙ ap (λ (k : ℕ). text ++ drop k s) n,
+      )
+
+-- ---- what was written is part of the slice
+
+abbrev countIn : Printed → ℕ
+countIn (Written count) = count
+countIn Short = 0
+
+pub written-within : (text s t : List ℕ) (count : ℕ) (x : Printed) → x ≡ Written count → x ≡ answerPrinted text s → t ≡ slicePrinted text s → count ≤ length t
+unfolding answerPrinted slicePrinted
+written-within text s t count x w a e =
+    let same : count ≡ countIn (cond (leb (length text) (length s)) (Written (length text)) Short) = ap countIn (sym w ∙ a) in
+    elim (test (leb (length text) (length s))) [
+      | inl l ↦
+          let n : count ≡ length text = rw l at same in
+          let long : length t ≡ length (text ++ drop (length text) s) = ap length (rw l at e) in
+          omega (arith, n, long, length-append text (drop (length text) s))
+      | inr l ↦ let n : count ≡ 0 = rw l at same in omega (arith, n)
+    ]

@@ -1,0 +1,249 @@
+// What `board` prints, written into a lent slice: the lines of a finished run, or the line of a refusal.
+// Rests on site for masks, posting for records. A place past the slice is counted and nothing is put there.
+ghost use mathlib.Core.Path.{_≡_};
+ghost use mathlib.Core.Bool.{cond};
+ghost use mathlib.Core.List.{[], _∷_, _++_};
+ghost use lib.ListN.{length};
+ghost use Rattle.posting.specs.Records.{numbersOf};
+ghost use Rattle.books.specs.Books.{recordOf};
+ghost use Rattle.printer.specs.Output.{lastDigit, decimal, eventLine, eventLines, items, siteLine, siteLines, logLine, quietLine, boardLines, printedOf, refusedLine, space, upWord, downWord};
+ghost use Rattle.printer.specs.Writing.{Put, slicePrinted, answerPrinted};
+use crate::Ended;
+use crate::Printed;
+use books::Records;
+use books::SITES;
+use masks::has_site;
+use posting::Record;
+use sets::POSTINGS;
+
+// The largest place.
+const LAST: usize = 18_446_744_073_709_551_615;
+
+const NEWLINE: u8 = 10;
+
+// One byte.
+pub fn put(byte: u8, at: usize, out: &mut [u8]) -> usize
+    ensures { λ r. ⌜ Put (byte ∷ []) at (now (out .entry)) (now (out .exit)) r ⌝ }
+{
+    if at < out.len() {
+        out[at] = byte;
+        return at + 1;
+    }
+    if at < LAST {
+        return at + 1;
+    }
+    at
+}
+
+// Some bytes.
+pub fn put_text(text: &[u8], at: usize, out: &mut [u8]) -> usize
+    ensures { λ r. ⌜ Put (now (text .entry)) at (now (out .entry)) (now (out .exit)) r ⌝ }
+{
+    let mut place = at;
+    for i in 0..text.len() {
+        place = put(text[i], place, out);
+    }
+    place
+}
+
+pub fn wide(x: u8) -> usize
+    ensures { λ r. ⌜ r ≡ x ⌝ }
+{
+    x as usize
+}
+
+fn last_digit(x: usize) -> u8
+    ensures { λ r. ⌜ r ≡ lastDigit x ⌝ }
+{
+    48 + (x % 10) as u8
+}
+
+// A number in base ten.
+pub fn put_number(x: usize, at: usize, out: &mut [u8]) -> usize
+    ensures { λ r. ⌜ Put (decimal x) at (now (out .entry)) (now (out .exit)) r ⌝ }
+{
+    let digit = last_digit(x);
+    if x < 10 {
+        return put(digit, at, out);
+    }
+    let place = put_number(x / 10, at, out);
+    put(digit, place, out)
+}
+
+// E: the event's number, and its answer as the number of a refusal, 0 if it was accepted.
+fn event_line(k: usize, refusal: u8, at: usize, out: &mut [u8]) -> usize
+    ensures { λ r. ⌜ Put (eventLine k refusal) at (now (out .entry)) (now (out .exit)) r ⌝ }
+{
+    let p = put_text(b"E ", at, out);
+    let q = put_number(k, p, out);
+    if refusal == 0 {
+        return put_text(b" ok\n", q, out);
+    }
+    let r = put_text(b" no ", q, out);
+    let s = put_number(wide(refusal), r, out);
+    put(NEWLINE, s, out)
+}
+
+// The lines of all events.
+fn event_lines(refusals: &[u8], at: usize, out: &mut [u8]) -> usize
+    ensures { λ r. ⌜ Put (eventLines 0 (now (refusals .entry))) at (now (out .entry)) (now (out .exit)) r ⌝ }
+{
+    let mut place = at;
+    for i in 0..refusals.len() {
+        place = event_line(i + 1, refusals[i], place, out);
+    }
+    place
+}
+
+// How many numbers a record has.
+fn count_of(delivered: Record) -> usize
+    ensures { λ r. ⌜ r ≡ length (numbersOf delivered) ⌝ }
+{
+    let count = delivered.count;
+    if POSTINGS < count {
+        return POSTINGS;
+    }
+    count
+}
+
+// A space and a number.
+fn put_item(x: usize, at: usize, out: &mut [u8]) -> usize
+    ensures { λ r. ⌜ Put (space ++ decimal x) at (now (out .entry)) (now (out .exit)) r ⌝ }
+{
+    let p = put(b' ', at, out);
+    put_number(x, p, out)
+}
+
+// A record's numbers, a space before each.
+fn put_items(delivered: Record, at: usize, out: &mut [u8]) -> usize
+    ensures { λ r. ⌜ Put (items (numbersOf delivered)) at (now (out .entry)) (now (out .exit)) r ⌝ }
+{
+    let count = count_of(delivered);
+    let mut place = at;
+    for i in 0..count {
+        let m = wide(delivered.numbers[i]);
+        place = put_item(m, place, out);
+    }
+    place
+}
+
+// Up or down.
+pub fn put_state(down: bool, at: usize, out: &mut [u8]) -> usize
+    ensures { λ r. ⌜ Put (cond down downWord upWord) at (now (out .entry)) (now (out .exit)) r ⌝ }
+{
+    if down {
+        return put_text(b" down", at, out);
+    }
+    put_text(b" up", at, out)
+}
+
+// S: site, up or down, then its record's numbers.
+fn site_line(p: u8, down: bool, delivered: Record, at: usize, out: &mut [u8]) -> usize
+    ensures { λ r. ⌜ Put (siteLine p down (numbersOf delivered)) at (now (out .entry)) (now (out .exit)) r ⌝ }
+{
+    let a = put_text(b"S ", at, out);
+    let b = put_number(wide(p), a, out);
+    let c = put_state(down, b, out);
+    let d = put_items(delivered, c, out);
+    put(NEWLINE, d, out)
+}
+
+// The record of site p; of what is no site, an empty one.
+fn record_of(records: Records, p: usize) -> Record
+    ensures { λ r. ⌜ numbersOf r ≡ numbersOf (recordOf records p) ⌝ }
+{
+    if SITES <= p {
+        return Record {
+            count: 0,
+            numbers: [0; POSTINGS],
+        };
+    }
+    records.sites[p]
+}
+
+// The lines of the first n sites.
+fn site_lines(n: u8, down: u8, records: Records, at: usize, out: &mut [u8]) -> usize
+    ensures { λ r. ⌜ Put (siteLines down records n) at (now (out .entry)) (now (out .exit)) r ⌝ }
+{
+    let mut place = at;
+    for p in 0..n {
+        let delivered = record_of(records, wide(p));
+        let is_down = has_site(down, p);
+        place = site_line(p, is_down, delivered, place, out);
+    }
+    place
+}
+
+// L: the log's postings.
+fn log_line(log: Record, at: usize, out: &mut [u8]) -> usize
+    ensures { λ r. ⌜ Put (logLine (numbersOf log)) at (now (out .entry)) (now (out .exit)) r ⌝ }
+{
+    let p = put(b'L', at, out);
+    let q = put_items(log, p, out);
+    put(NEWLINE, q, out)
+}
+
+// Q: quiet, yes or no.
+fn quiet_line(quiet: bool, at: usize, out: &mut [u8]) -> usize
+    ensures { λ r. ⌜ Put (quietLine quiet) at (now (out .entry)) (now (out .exit)) r ⌝ }
+{
+    if quiet {
+        return put_text(b"Q yes\n", at, out);
+    }
+    put_text(b"Q no\n", at, out)
+}
+
+// The lines of the board that a run ended on.
+fn board_lines(ended: Ended, at: usize, out: &mut [u8]) -> usize
+    ensures { λ r. ⌜ Put (boardLines ended) at (now (out .entry)) (now (out .exit)) r ⌝ }
+{
+    let records = ended.records;
+    let log = ended.log;
+    let p = site_lines(ended.n, ended.down, records, at, out);
+    let q = log_line(log, p, out);
+    quiet_line(ended.quiet, q, out)
+}
+
+// All lines of a finished run.
+fn run_lines(refusals: &[u8], ended: Ended, at: usize, out: &mut [u8]) -> usize
+    ensures { λ r. ⌜ Put (printedOf (now (refusals .entry)) ended) at (now (out .entry)) (now (out .exit)) r ⌝ }
+{
+    let p = event_lines(refusals, at, out);
+    board_lines(ended, p, out)
+}
+
+// F: the number of a refusal.
+fn refused_line(refusal: u8, at: usize, out: &mut [u8]) -> usize
+    ensures { λ r. ⌜ Put (refusedLine refusal) at (now (out .entry)) (now (out .exit)) r ⌝ }
+{
+    let p = put_text(b"F ", at, out);
+    let q = put_number(wide(refusal), p, out);
+    put(NEWLINE, q, out)
+}
+
+// A finished run, printed: the refusal number of each event's answer, 0 if it was accepted, and what is shown of its last board.
+// The lines are counted first, on no bytes of the slice.
+pub fn print_run(refusals: &[u8], ended: Ended, out: &mut [u8]) -> Printed
+    ensures { λ r. ⌜ r ≡ answerPrinted (printedOf (now (refusals .entry)) ended) (now (out .entry)) ⌝ }
+    ensures { λ _. ⌜ now (out .exit) ≡ slicePrinted (printedOf (now (refusals .entry)) ended) (now (out .entry)) ⌝ }
+{
+    let needed = run_lines(refusals, ended, 0, &mut out[0..0]);
+    if out.len() < needed {
+        return Printed::Short;
+    }
+    let end = run_lines(refusals, ended, 0, out);
+    Printed::Written(end)
+}
+
+// The line of a refusal, printed: 1 of a malformed file, 2 to 5 of a refused start.
+pub fn print_refused(refusal: u8, out: &mut [u8]) -> Printed
+    ensures { λ r. ⌜ r ≡ answerPrinted (refusedLine refusal) (now (out .entry)) ⌝ }
+    ensures { λ _. ⌜ now (out .exit) ≡ slicePrinted (refusedLine refusal) (now (out .entry)) ⌝ }
+{
+    let needed = refused_line(refusal, 0, &mut out[0..0]);
+    if out.len() < needed {
+        return Printed::Short;
+    }
+    let end = refused_line(refusal, 0, out);
+    Printed::Written(end)
+}

@@ -1,0 +1,3 @@
+-- What the proofs share.
+-- Rests on the specs.
+pub mod ByCase
