@@ -1,13 +1,13 @@
 -- Posting on a sheet: what the code does with a line of a record, and what a record that may be posted says of each line.
 -- Rests on Lines. Assumes nothing.
-use mathlib.Core.Path.{_≡_, refl, sym, ap, _∙_, subst}
+use mathlib.Core.Path.{_≡_, refl, sym, ap, _∙_, subst, fun-ext}
 use mathlib.Core.Bool.{Bool, true, false, cond}
 use mathlib.Core.List.{List}
-use Prim.Native.Nat.{ℕ, suc, _<_, _≤_}
+use Prim.Native.Nat.{ℕ, zero, suc, _<_, _≤_}
 use native.Mathlib.Decide.{ℕ-discrete}
 use native.Mathlib.Omega.{arith}
 use lib.Dec.{eqb, lit≤}
-use lib.ListN.{length, getD, set, take}
+use lib.ListN.{length, getD, set, take, replicate}
 use lib.Seq.{length-take-le, getD-take}
 use borrow.Author.Tests.{eq-eqb, ne-eqb}
 use Rattle.sets.specs.Sets.{capacity}
@@ -109,3 +109,13 @@ module _ (table : Table) (delivered : Record) (ok : Postable table delivered) wh
       each j l =
           let m : j < i = omega (arith, length-take-le i (delivered .numbers) here) in
           rw (getD-take i (delivered .numbers) j 0 m) (line-fields j (omega arith))
+
+-- past the sixteen accounts zeros are read, too
+pub blank-figures : figuresOf (sheetOf blank) ≡ blank
+unfolding tabulate
+blank-figures = fun-ext (λ k. at accounts k)
+  where
+    at : (n k : ℕ) → getD (replicate n zeros) k zeros ≡ zeros
+    at zero k = refl
+    at (suc n) zero = refl
+    at (suc n) (suc k) = at n k

@@ -1,26 +1,13 @@
--- One turn more of a loop that tests numbers, of one that stores a function's values, and of one that copies.
+-- One turn more of a loop that stores a function's values, and of one that copies.
 -- Assumes nothing.
 use Prim.Native.Nat.{ℕ, suc, _+_, _<_, _≤_}
 use mathlib.Core.Path.{_≡_, refl, sym, ap, _∙_}
-use mathlib.Core.Bool.{Bool, true}
 use mathlib.Core.List.{List, _++_}
 use native.Mathlib.Numerals.{add-one}
 use native.Mathlib.Omega.{arith}
 use lib.ListN.{length, getD, take, drop, set, replicate, length-replicate, length-set}
 use lib.Seq.{take-suc, take-suc-set, take-all, length-take-le, drop-cons, append-snoc, set-at}
-use Rattle.sets.specs.Truth.{and-intro}
-use Rattle.sets.specs.Below.{allBelow}
 use Rattle.books.specs.Books.{tabulate}
-
--- ---- tests
-
-pub all-none : (p : ℕ → Bool) → allBelow p 0 ≡ true
-unfolding allBelow
-all-none p = refl
-
-pub all-more : (p : ℕ → Bool) (n : ℕ) → allBelow p n ≡ true → p n ≡ true → allBelow p (n + 1) ≡ true
-unfolding allBelow
-all-more p n t h = rw add-one (and-intro (allBelow p n) (p n) t h)
 
 -- ---- stores
 

@@ -1,31 +1,28 @@
 -- What a function that refuses or does its work leaves and answers; the room that was tested; the books of what was read.
 -- Rests on Answers. Assumes nothing.
 use Prim.Native.Nat.{ℕ, _≤_}
-use mathlib.Core.Path.{_≡_, refl, fun-ext}
+use mathlib.Core.Path.{_≡_, refl}
 use mathlib.Core.Bool.{Bool, true, false, cond, _&&_}
 use mathlib.Core.List.{List}
-use mathlib.Core.Logic.{inl, inr}
-use native.Mathlib.Omega.{arith}
-use lib.Dec.{leb, ltb}
+use lib.Dec.{leb}
 use lib.IntN.{ℤ, pos, natAbs}
-use lib.ListN.{length, getD, List·getD-eq-default}
+use lib.ListN.{length, getD}
 use mir.Syntax.{w64}
 use mir.Val.{SFits}
 use mir.Facts.{toZ-ofZ}
-use borrow.Author.Tests.{leb-true, ltb-true, ltb-false}
-use Rattle.sets.specs.Truth.{test, and-left, and-right}
+use borrow.Author.Tests.{leb-true}
+use Rattle.sets.specs.Truth.{and-left, and-right}
 use Rattle.sets.specs.Sets.{capacity}
 use Rattle.posting.specs.declared.Table.{Table}
 use Rattle.posting.specs.declared.Record.{Record}
 use Rattle.posting.specs.Records.{numbersOf}
-use Rattle.posting.specs.Kinds.{accounts}
 use Rattle.books.specs.declared.Figures.{Figures}
 use Rattle.books.specs.declared.Sheet.{Sheet}
 use Rattle.books.specs.declared.Records.{Records}
-use Rattle.books.specs.Books.{blank, books, numbers, numbersOfSites, zeros, tabulate, figuresOf, sheetOf}
+use Rattle.books.specs.Books.{blank, books, numbers, numbersOfSites, figuresOf, sheetOf}
 use Rattle.books.specs.Bounds.{Room}
 use Rattle.books.proofs.Signed.{readBack}
-use Rattle.books.proofs.Lists.{length-tabulate, getD-tabulate}
+use Rattle.books.proofs.Sheets.{blank-figures}
 use Rattle.exported.specs.Bytes.{tableOf, recordOf, recordsOf}
 use Rattle.exported.specs.Answers.{answer, roomy, figuresAt}
 use Rattle.exported.proofs.Reading.{numbers-of}
@@ -67,18 +64,6 @@ readFigures l = record {
 pub figures-read : (l : List ℤ) → SFits w64 (getD l 0 (pos 0)) → SFits w64 (getD l 1 (pos 0)) → SFits w64 (getD l 2 (pos 0)) → SFits w64 (getD l 3 (pos 0))
     → readFigures l ≡ figuresAt l
 figures-read l a b c d = rw (toZ-ofZ a, toZ-ofZ b, toZ-ofZ c, toZ-ofZ d)
-
--- the figures of a sheet of zeros
-pub blank-figures : figuresOf (sheetOf blank) ≡ blank
-blank-figures = fun-ext (λ k. at k)
-  where
-    at : (k : ℕ) → getD (tabulate accounts blank) k zeros ≡ zeros
-    at k = elim (test (ltb k accounts)) [
-      | inl t ↦ getD-tabulate accounts blank zeros k (ltb-true k accounts t)
-      | inr f ↦
-          let b : length (tabulate accounts blank) ≤ k = omega (arith, length-tabulate accounts blank, ltb-false k accounts f) in
-          List·getD-eq-default (tabulate accounts blank) zeros b
-    ]
 
 -- ---- the books of what was read
 

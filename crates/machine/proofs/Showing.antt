@@ -1,7 +1,7 @@
 -- The books of a sound board: its records may be posted, the copy of its records, its books from a sheet of zeros, and a law for each return.
 -- Rests on SoundTest and on the laws of books. Assumes nothing.
 use Prim.Native.Nat.{ℕ, zero, suc, _+_, _*_, _<_, _≤_}
-use mathlib.Core.Path.{_≡_, refl, sym, _∙_, fun-ext}
+use mathlib.Core.Path.{_≡_, refl, sym, _∙_}
 use mathlib.Core.Logic.{inl, inr, _≢_}
 use mathlib.Core.Bool.{true}
 use mathlib.Core.List.{List, _++_, map}
@@ -21,10 +21,11 @@ use Rattle.site.specs.Sites.{noSite}
 use Rattle.flight.specs.Flights.{cells}
 use Rattle.books.specs.declared.Sheet.{Sheet}
 use Rattle.books.specs.declared.Records.{Records}
-use Rattle.books.specs.Books.{blank, books, numbers, numbersOfSites, tabulate, sheetOf, zeros}
+use Rattle.books.specs.Books.{blank, books, numbers, numbersOfSites, sheetOf}
 use Rattle.books.specs.Books as of-books
 use Rattle.books.specs.Bounds.{Postable}
 use Rattle.books.proofs.Blocks.{length-numbers}
+use Rattle.books.proofs.Sheets.{blank-figures}
 use Rattle.machine.specs.declared.Board.{Board}
 use Rattle.machine.specs.declared.Answer.the-variants.{Done, Refused}
 use Rattle.machine.specs.Boards.{siteAt}
@@ -79,22 +80,12 @@ module _ (ss : List Site) (k : ℕ) (long : length ss ≡ k) where
 
 -- ---- books from a sheet of zeros
 
--- past the sixteen accounts zeros are read, too
-blank-figures : of-books.figuresOf (sheetOf blank) ≡ blank
-unfolding tabulate
-blank-figures = fun-ext (λ k. at accounts k)
-  where
-    at : (n k : ℕ) → getD (replicate n zeros) k zeros ≡ zeros
-    at zero k = refl
-    at (suc n) zero = refl
-    at (suc n) (suc k) = at n k
-
 all-figures : (b : Board) (records : Records) → records .sites ≡ map delivered (b .sites) → (n : ℕ) → numbersOfSites n blank (b .table) records ≡ figuresOfAll b n
 unfolding numbersOfSites figuresOfAll figuresOf
 all-figures b records copy zero = refl
 all-figures b records copy (suc n) = rw (record-is b records copy n, all-figures b records copy n)
 
-length-all : (b : Board) (n : ℕ) → length (figuresOfAll b n) ≡ 64 * n
+pub length-all : (b : Board) (n : ℕ) → length (figuresOfAll b n) ≡ 64 * n
 unfolding figuresOfAll figuresOf
 length-all b zero = refl
 length-all b (suc n) =

@@ -8,7 +8,6 @@ ghost use Rattle.site.specs.Sites.{sites};
 ghost use Rattle.site.specs.ByMask.{stepOf};
 ghost use Rattle.machine.specs.Soundness.{isSound};
 ghost use Rattle.machine.specs.Calls.{carriedOut, offering, receiving, ordering, reading, crashing};
-ghost use Rattle.machine.specs.ByMask.{refusing, taken};
 use crate::Answer;
 use crate::Board;
 use crate::Outcome;
@@ -81,7 +80,10 @@ impl Board {
         let setup = self.setup;
         let why = site_refusal(setup.n, self.down, site);
         if why != 0 {
-            return refused(self, why);
+            return Outcome {
+                board: self,
+                answer: Answer::Refused(why),
+            };
         }
         let posting = Posting {
             owner: site as u8,
@@ -94,7 +96,10 @@ impl Board {
         let m = table.count;
         let no = offer_refusal(posting, m);
         if no != 0 {
-            return refused(self, no);
+            return Outcome {
+                board: self,
+                answer: Answer::Refused(no),
+            };
         }
         let own = self.sites[site];
         let tally = self.tallies[m];
@@ -102,7 +107,10 @@ impl Board {
         let sends = step.sends;
         let late = cut_refusal(setup.f, self.down, sends.to, cut);
         if late != 0 {
-            return refused(self, late);
+            return Outcome {
+                board: self,
+                answer: Answer::Refused(late),
+            };
         }
         let mut d = self;
         d.table = with_row(table, posting);
@@ -121,7 +129,10 @@ impl Board {
         let setup = self.setup;
         let why = message_refusal(setup.n, self.down, from, to);
         if why != 0 {
-            return refused(self, why);
+            return Outcome {
+                board: self,
+                answer: Answer::Refused(why),
+            };
         }
         let mut d = self;
         if flight::in_flight(&d.flight.masks, form, m, from, to) {
@@ -145,15 +156,24 @@ impl Board {
             let sends = step.sends;
             let late = cut_refusal(setup.f, self.down, sends.to, cut);
             if late != 0 {
-                return refused(self, late);
+                return Outcome {
+                    board: self,
+                    answer: Answer::Refused(late),
+                };
             }
             flight::take_out(&mut d.flight.masks, form, m, from, to);
             flight::clear_good(&mut d.flight.good, form, m, from, to);
             flight::clear_carried(&mut d.flight.carried, form, m, from);
-            let after = d.carry_out(to, m, step, cut);
-            return done(after);
+            let later = d.carry_out(to, m, step, cut);
+            return Outcome {
+                board: later,
+                answer: Answer::Done,
+            };
         }
-        refused(self, 11)
+        Outcome {
+            board: self,
+            answer: Answer::Refused(11),
+        }
     }
 
     // Order, of a sound board.
@@ -167,9 +187,15 @@ impl Board {
             let log = d.log;
             d.pool = pool.without(m);
             d.log = log.append(m);
-            return done(d);
+            return Outcome {
+                board: d,
+                answer: Answer::Done,
+            };
         }
-        refused(self, 12)
+        Outcome {
+            board: self,
+            answer: Answer::Refused(12),
+        }
     }
 
     // Read, of a sound board.
@@ -180,18 +206,27 @@ impl Board {
         let setup = self.setup;
         let why = site_refusal(setup.n, self.down, site);
         if why != 0 {
-            return refused(self, why);
+            return Outcome {
+                board: self,
+                answer: Answer::Refused(why),
+            };
         }
         let mut d = self;
         let own = d.sites[site];
         let place = own.place;
         let log = d.log;
         if log.count <= place {
-            return refused(self, 13);
+            return Outcome {
+                board: self,
+                answer: Answer::Refused(13),
+            };
         }
         let late = cut_refusal(setup.f, self.down, 0, cut);
         if late != 0 {
-            return refused(self, late);
+            return Outcome {
+                board: self,
+                answer: Answer::Refused(late),
+            };
         }
         let m = log.numbers[place] as usize;
         let carried = d.entries[m];
@@ -199,7 +234,10 @@ impl Board {
         let after = entry_to(next, carried, m, cut);
         d.sites[site] = after;
         d.down = down_after(d.down, site as u8, cut);
-        done(d)
+        Outcome {
+            board: d,
+            answer: Answer::Done,
+        }
     }
 
     // Crash, of a sound board.
@@ -210,34 +248,24 @@ impl Board {
         let setup = self.setup;
         let why = site_refusal(setup.n, self.down, site);
         if why != 0 {
-            return refused(self, why);
+            return Outcome {
+                board: self,
+                answer: Answer::Refused(why),
+            };
         }
         let crashes = setup.f as u32;
         let lost = u8::count_ones(self.down);
         if crashes <= lost {
-            return refused(self, 14);
+            return Outcome {
+                board: self,
+                answer: Answer::Refused(14),
+            };
         }
         let mut d = self;
         d.down = with_site(d.down, site as u8);
-        done(d)
-    }
-}
-
-// A refusal hands the board back as it was.
-pub fn refused(b: Board, why: u8) -> Outcome
-    ensures { λ r. ⌜ r ≡ refusing b why ⌝ }
-{
-    Outcome {
-        board: b,
-        answer: Answer::Refused(why),
-    }
-}
-
-pub fn done(b: Board) -> Outcome
-    ensures { λ r. ⌜ r ≡ taken b ⌝ }
-{
-    Outcome {
-        board: b,
-        answer: Answer::Done,
+        Outcome {
+            board: d,
+            answer: Answer::Done,
+        }
     }
 }

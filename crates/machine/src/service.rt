@@ -6,7 +6,6 @@ ghost use Rattle.machine.specs.Calls.{offering, receiving, ordering, rea
 use crate::Answer;
 use crate::Board;
 use crate::Outcome;
-use crate::calls::refused;
 use steps::Cut;
 
 impl Board {
@@ -25,7 +24,10 @@ impl Board {
         if self.is_sound() {
             return self.offer_sound(site, kind, account, other, amount, cut);
         }
-        refused(self, 6)
+        Outcome {
+            board: self,
+            answer: Answer::Refused(6),
+        }
     }
 
     // Receive: the message leaves the flight, and its receiver takes the step of its form.
@@ -35,7 +37,10 @@ impl Board {
         if self.is_sound() {
             return self.receive_sound(form, m, from, to, cut);
         }
-        refused(self, 6)
+        Outcome {
+            board: self,
+            answer: Answer::Refused(6),
+        }
     }
 
     // Order: the oracle moves m's entry from the pool to the end of the log.
@@ -45,7 +50,10 @@ impl Board {
         if self.is_sound() {
             return self.order_sound(m);
         }
-        refused(self, 6)
+        Outcome {
+            board: self,
+            answer: Answer::Refused(6),
+        }
     }
 
     // Read: a site takes the log's next entry.
@@ -55,7 +63,10 @@ impl Board {
         if self.is_sound() {
             return self.read_sound(site, cut);
         }
-        refused(self, 6)
+        Outcome {
+            board: self,
+            answer: Answer::Refused(6),
+        }
     }
 
     // Crash: a site goes down for good.
@@ -65,7 +76,10 @@ impl Board {
         if self.is_sound() {
             return self.crash_sound(site);
         }
-        refused(self, 6)
+        Outcome {
+            board: self,
+            answer: Answer::Refused(6),
+        }
     }
 
     // The books of a site.

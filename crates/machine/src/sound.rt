@@ -1,14 +1,14 @@
 // Whether a board is sound: none of the causes that document 01 lists under refusal 6.
-// Rests on soundness for the parts, on site and posting. The first part that fails ends the test.
+// Rests on soundness and cells for the parts, on site and posting. The first part that fails ends the test.
 ghost use mathlib.Core.Path.{_≡_};
 ghost use Rattle.machine.specs.Soundness.{setupOk, isSound};
 ghost use Rattle.machine.specs.SoundParts.{basisSound};
 use crate::Board;
+use cells::cells_ok;
+use masks::sites_below;
 use posting::Table;
 use site::Setup;
-use soundness::cells::cells_ok;
 use soundness::pool::pool_ok;
-use soundness::sites::sites_below;
 use soundness::sites::sites_ok;
 use soundness::sites::tallies_ok;
 use soundness::table::offered_set;

@@ -7,10 +7,9 @@ ghost use Rattle.machine.specs.Boards.{freshBoard};
 ghost use Rattle.machine.specs.Calls.{starting};
 ghost use Rattle.steps.specs.Causes.{firstCause};
 ghost use Rattle.machine.specs.ByMask.{startCauses};
+use crate::Answer;
 use crate::Board;
 use crate::Outcome;
-use crate::calls::done;
-use crate::calls::refused;
 use flight::Flight;
 use posting::Posting;
 use posting::Record;
@@ -131,13 +130,19 @@ impl Board {
                 f: 0,
                 matrix: 0,
             });
-            return refused(blank, why);
+            return Outcome {
+                board: blank,
+                answer: Answer::Refused(why),
+            };
         }
         let board = Board::fresh(Setup {
             n: n,
             f: f,
             matrix: matrix,
         });
-        done(board)
+        Outcome {
+            board: board,
+            answer: Answer::Done,
+        }
     }
 }

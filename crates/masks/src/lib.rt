@@ -1,6 +1,8 @@
 // Masks of sites: a byte has a bit for each of at most 7 sites.
 // Rests on sets for the bits of a number.
+ghost use Prim.Native.Nat.{_^_};
 ghost use mathlib.Core.Path.{_≡_};
+ghost use lib.Dec.{ltb};
 ghost use Rattle.sets.specs.Masks.{hasBit};
 ghost use Rattle.masks.specs.SiteMasks.{room, onlySite, everySite, withSite, withSiteIf, nextSite, firstSites, relayTo};
 
@@ -87,4 +89,14 @@ pub fn first_sites(mask: u8, j: usize) -> u8
         low = next_site(low, mask, p, j);
     }
     low
+}
+
+// A mask names sites below n only.
+pub fn sites_below(n: u8, mask: u8) -> bool
+    ensures { λ r. ⌜ r ≡ ltb mask (2 ^ n) ⌝ }
+{
+    if 8 <= n {
+        return true;
+    }
+    mask < (1 << n)
 }

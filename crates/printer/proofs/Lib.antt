@@ -1,4 +1,6 @@
--- What the proofs of printer share: bytes put into a slice, and the texts.
+-- What the proofs of printer share: bytes put into a slice, the texts, their lengths, and what the checker tells of a parameter.
 -- Assumes nothing.
 pub mod Writing
 pub mod Texts
+pub mod Lengths
+pub mod Typed

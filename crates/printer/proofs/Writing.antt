@@ -76,6 +76,17 @@ unfolding putting
 none-held [] at = refl
 none-held (x ∷ a) at = none-held a (next at)
 
+-- a text no longer than the slice, written
+pub at-once : (text s u : List ℕ) (end : ℕ) → length s < lastPlace → length text ≤ length s → Put text 0 s u end
+    → (Written end ≡ answerPrinted text s) × (u ≡ slicePrinted text s)
+unfolding answerPrinted slicePrinted
+at-once text s u end room l x =
+    let n : 0 + length text ≡ length text = omega arith in
+    rw (le-leb (length text) (length s) l) (
+      ap Written (omega (arith, x .moved, after-is text 0 (omega arith))),
+      x .holds ∙ putting-sets text s 0 (omega arith) ∙ sets-eq text s 0 (omega arith) ∙ ap (λ (k : ℕ). text ++ drop k s) n,
+    )
+
 -- the text was counted on no bytes of the slice, which are t after that
 module _ (text s t : List ℕ) (needed : ℕ) (counted : Put text 0 [] t needed) where
   stays : t ++ s ≡ s
@@ -90,18 +101,9 @@ module _ (text s t : List ℕ) (needed : ℕ) (counted : Put text 0 [] t needed)
 
   pub written : (u : List ℕ) (end : ℕ) → length s < lastPlace → needed ≤ length (t ++ s) → Put text 0 (t ++ s) u end
       → (Written end ≡ answerPrinted text s) × (u ≡ slicePrinted text s)
-  unfolding answerPrinted slicePrinted
   written u end room h x =
       let l : length text ≤ length s = omega (arith, place-is, ap length stays) in
-      let n : 0 + length text ≡ length text = omega arith in
-      rw (le-leb (length text) (length s) l) (
-        ap Written (omega (arith, x .moved, after-is text 0 (omega arith))),
-        x .holds
-            ∙ ap (λ (r : List ℕ). putting r 0 text) stays
-            ∙ putting-sets text s 0 (omega arith)
-            ∙ sets-eq text s 0 (omega arith)
-            ∙ ap (λ (k : ℕ). text ++ drop k s) n,
-      )
+      at-once text s u end room l (rw stays at x)
 
 -- ---- what was written is part of the slice
 

@@ -1,8 +1,8 @@
 -- Bytes put into a lent slice from a place on: the place after them, the slice with them, and what a text that may not fit leaves.
 -- Rests on the declared Printed. Bytes past the end of the slice are counted and not put, so the same code counts and writes.
-use Prim.Native.Nat.{ℕ, _+_}
+use Prim.Native.Nat.{ℕ, _+_, _*_}
 use mathlib.Core.Path.{_≡_}
-use mathlib.Core.Bool.{Bool, cond}
+use mathlib.Core.Bool.{Bool, cond, _&&_}
 use mathlib.Core.List.{List, [], _∷_, _++_}
 use lib.Dec.{ltb, leb}
 use lib.ListN.{length, drop, set}
@@ -44,3 +44,16 @@ slicePrinted text slice = cond (fits text slice) (text ++ drop (length text) sli
 -- how many bytes were written, or that the slice is too short
 unfoldable pub answerPrinted : List ℕ → List ℕ → Printed
 answerPrinted text slice = cond (fits text slice) (Written (length text)) Short
+
+-- ---- a run's text that surely fits, by the numbers of its events and sites
+
+-- below it an event's number has at most four digits
+abbrev pub mostEvents : ℕ
+mostEvents = 10_000
+
+-- A run's text is no longer: 14 bytes for each event, 267 for each site, 264 for the log and the last line.
+abbrev pub longestRun : ℕ → ℕ → ℕ
+longestRun events n = 14 * events + 267 * n + 264
+
+abbrev pub surelyFits : ℕ → ℕ → ℕ → Bool
+surelyFits events n room = ltb events mostEvents && leb (longestRun events n) room

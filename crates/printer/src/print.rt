@@ -7,7 +7,7 @@ ghost use lib.ListN.{length};
 ghost use Rattle.posting.specs.Records.{numbersOf};
 ghost use Rattle.books.specs.Books.{recordOf};
 ghost use Rattle.printer.specs.Output.{lastDigit, decimal, eventLine, eventLines, items, siteLine, siteLines, logLine, quietLine, boardLines, printedOf, refusedLine, space, upWord, downWord};
-ghost use Rattle.printer.specs.Writing.{Put, slicePrinted, answerPrinted};
+ghost use Rattle.printer.specs.Writing.{Put, slicePrinted, answerPrinted, surelyFits};
 use crate::Ended;
 use crate::Printed;
 use books::Records;
@@ -20,6 +20,18 @@ use sets::POSTINGS;
 const LAST: usize = 18_446_744_073_709_551_615;
 
 const NEWLINE: u8 = 10;
+
+// Below so many events, an event's number has four digits at most.
+const MOST_EVENTS: usize = 10_000;
+
+// No line of an event is longer: four digits of its number, three of a refusal's.
+const EVENT_LINE: usize = 14;
+
+// No line of a site is longer: its record has 64 numbers at most, of three digits.
+const SITE_LINE: usize = 267;
+
+// Nor are the log's line and the last, together.
+const LAST_LINES: usize = 264;
 
 // One byte.
 pub fn put(byte: u8, at: usize, out: &mut [u8]) -> usize
@@ -221,12 +233,28 @@ fn refused_line(refusal: u8, at: usize, out: &mut [u8]) -> usize
     put(NEWLINE, q, out)
 }
 
+// A run of so many events and sites surely fits into so many bytes.
+fn surely_fits(events: usize, n: u8, room: usize) -> bool
+    ensures { λ r. ⌜ r ≡ surelyFits events n room ⌝ }
+{
+    if MOST_EVENTS <= events {
+        return false;
+    }
+    let sites = SITE_LINE * wide(n);
+    let longest = EVENT_LINE * events + sites + LAST_LINES;
+    longest <= room
+}
+
 // A finished run, printed: the refusal number of each event's answer, 0 if it was accepted, and what is shown of its last board.
-// The lines are counted first, on no bytes of the slice.
+// Where the lines may not fit they are counted first, on no bytes of the slice.
 pub fn print_run(refusals: &[u8], ended: Ended, out: &mut [u8]) -> Printed
     ensures { λ r. ⌜ r ≡ answerPrinted (printedOf (now (refusals .entry)) ended) (now (out .entry)) ⌝ }
     ensures { λ _. ⌜ now (out .exit) ≡ slicePrinted (printedOf (now (refusals .entry)) ended) (now (out .entry)) ⌝ }
 {
+    if surely_fits(refusals.len(), ended.n, out.len()) {
+        let end = run_lines(refusals, ended, 0, out);
+        return Printed::Written(end);
+    }
     let needed = run_lines(refusals, ended, 0, &mut out[0..0]);
     if out.len() < needed {
         return Printed::Short;

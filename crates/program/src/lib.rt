@@ -6,8 +6,7 @@ use printer::Printed;
 // One byte more than the longest run file has: what fills it is malformed, however much follows.
 const ROOM: usize = 40_970;
 
-// The longest output is shorter than the buffer that it is printed into: at most 13 bytes for each of 4,096 events, and less than
-// 4,096 for seven sites, the log and quiet.
+// The buffer has 65,536 bytes, and no output is longer: theorem output-fits of runfile.
 pub fn print_from(fd: i32) {
     let mut input = [0; ROOM];
     let length = io::read_full(fd, &mut input);

@@ -4,4 +4,5 @@ pub mod Runs
 pub mod InPlace
 pub mod InPlaceCalls
 pub mod Programs
+pub mod Fits
 pub mod Evaluated

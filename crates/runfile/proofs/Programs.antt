@@ -60,7 +60,7 @@ abbrev pub startWith : Setup → Outcome
 startWith setup = starting (setup .n) (setup .f) (setup .matrix)
 
 -- no refusal of a start has the number 0
-start-accepted : (n f matrix : ℕ) → refusalOf (starting n f matrix .answer) ≡ 0 → accepted (starting n f matrix .answer) ≡ true
+pub start-accepted : (n f matrix : ℕ) → refusalOf (starting n f matrix .answer) ≡ 0 → accepted (starting n f matrix .answer) ≡ true
 unfolding starting judged
 start-accepted n f matrix e =
     let setup : Setup = record { n = n; f = f; matrix = matrix } in

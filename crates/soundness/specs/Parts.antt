@@ -1,14 +1,13 @@
 -- The parts of the test for soundness, each over what it reads alone.
 -- Proof machinery: the contracts of src/ name these parts, and machine's sound-parts says that they make up isSound, the definition in its Soundness.
--- Rests on flight, site, posting and sets. Assumes nothing.
-use Prim.Native.Nat.{ℕ, zero, suc, _+_, _*_, _-_, _/_, _%_, _^_, _<_}
+-- Rests on site, posting and sets. Assumes nothing.
+use Prim.Native.Nat.{ℕ, _-_, _^_, _<_}
 use mathlib.Core.Path.{_≡_, ap, _∙_}
 use mathlib.Core.Bool.{Bool, not, _&&_, _||_}
 use mathlib.Core.List.{List, [], _∷_}
 use native.Mathlib.Omega.{arith}
 use lib.Dec.{eqb, ltb, leb}
 use lib.ListN.{getD}
-use lib.Bits.{bitOr}
 use borrow.Author.Tests.{lt-ltb}
 use Rattle.sets.specs.declared.Set.{Set}
 use Rattle.sets.specs.Below.{allBelow, allOf}
@@ -23,10 +22,8 @@ use Rattle.posting.specs.Conflicts.{row, offeredBy}
 use Rattle.posting.specs.Records.{numbersOf, contains}
 use Rattle.site.specs.declared.Site.{Site}
 use Rattle.site.specs.declared.Tally.{Tally}
-use Rattle.site.specs.Sites.{sites, noSet, noSite, noTally}
-use Rattle.site.specs.Sends.{THIRD}
+use Rattle.site.specs.Sites.{noSet, noSite, noTally}
 use Rattle.site.specs.Steps.{ownerOf}
-use Rattle.flight.specs.Flights.{cells, setIn}
 
 -- ---- the parts, where there are n sites and `count` postings offered, `all` as a set
 
@@ -85,45 +82,6 @@ tallySound n count all m t =
 
 unfoldable pub talliesSound : ℕ → ℕ → Set → List Tally → Bool
 talliesSound n count all l = allBelow (λ m. tallySound n count all m (getD l m noTally)) capacity
-
--- a THIRD about m from a site: it goes to the owner, and its set names postings offered
-unfoldable pub thirdSound : ℕ → Set → List ℕ → ℕ → ℕ → ℕ → Bool
-thirdSound owner all carried m from mask = eqb mask (2 ^ owner) && subset (setIn carried m from) all
-
--- the posting of cell k
-abbrev pub postingAt : ℕ → ℕ
-postingAt k = k / sites % capacity
-
--- cell k, whose posting has this owner
-unfoldable pub cellSound : ℕ → ℕ → ℕ → Set → List ℕ → ℕ → ℕ → Bool
-cellSound n count owner all carried k mask =
-    eqb mask 0
-    || allOf
-    (offeredBy count (postingAt k)
-    ∷ ltb (k % sites) n
-    ∷ ltb mask (2 ^ n)
-    ∷ (not (eqb (k / (capacity * sites)) THIRD) || thirdSound owner all carried (postingAt k) (k % sites) mask)
-    ∷ [])
-
--- the cell at place k
-unfoldable pub cellSoundAt : ℕ → Table → Set → List ℕ → List ℕ → ℕ → Bool
-cellSoundAt n t all carried masks k = cellSound n (t .count) (ownerOf t (postingAt k)) all carried k (getD masks k 0)
-
--- how many cells make a block
-abbrev pub block : ℕ
-block = 64
-
--- the block of cells from k on
-unfoldable pub blockSound : ℕ → Table → Set → List ℕ → List ℕ → ℕ → Bool
-blockSound n t all carried masks k = allBelow (λ i. cellSoundAt n t all carried masks (k + i)) block
-
-unfoldable pub cellsSound : ℕ → Table → Set → List ℕ → List ℕ → Bool
-cellsSound n t all carried masks = allBelow (cellSoundAt n t all carried masks) cells
-
--- i masks from place k on, joined
-unfoldable pub joined : List ℕ → ℕ → ℕ → ℕ
-joined masks k zero = 0
-joined masks k (suc i) = bitOr (joined masks k i) (getD masks (k + i) 0)
 
 -- the postings that their owners have finished
 unfoldable pub finishedSet : Table → List Site → Set

@@ -1,25 +1,15 @@
 // What belongs to the sites of a board, tested: masks, records, sets and tallies name postings offered and sites below n only.
-// Rests on site, posting and sets.
-ghost use Prim.Native.Nat.{_^_, _≤_};
+// Rests on site, masks, posting and sets.
+ghost use Prim.Native.Nat.{_≤_};
 ghost use mathlib.Core.Path.{_≡_};
-ghost use lib.Dec.{ltb};
 ghost use Rattle.soundness.specs.Parts.{maskSound, masksSound, recordSound, setsSound, siteSound, sitesSound, tallySound, talliesSound};
+use masks::sites_below;
 use posting::Record;
 use sets::POSTINGS;
 use sets::Set;
 use site::SITES;
 use site::Site;
 use site::Tally;
-
-// A mask names sites below n only.
-pub fn sites_below(n: u8, mask: u8) -> bool
-    ensures { λ r. ⌜ r ≡ ltb mask (2 ^ n) ⌝ }
-{
-    if 8 <= n {
-        return true;
-    }
-    mask < (1 << n)
-}
 
 // A mask that is kept for posting m.
 fn mask_ok(n: u8, count: usize, m: usize, mask: u8) -> bool

@@ -8,7 +8,8 @@ use Rattle.sets.specs.Below.{allBelow}
 use Rattle.sets.specs.Masks.{hasBit}
 use Rattle.decoder.specs.RunFile.{hasMark, headerOk, wellFormed}
 use Rattle.printer.specs.Output.{digits, decimal, refusedLine}
-use Rattle.statements.specs.Statement.{accountAt, isBlank, signed, accountLine, accountPart, accountLines, hasNone, siteLine, accountsPart, sitePart, siteParts, sameNumber, sameAccount, sameSite, agree, agreeWith, allAgree, statementText, stated}
+use Rattle.figures_table.specs.Table.{accountAt, isBlank, signed, accountLine, accountPart, accountLines, hasNone, siteLine, accountsPart, sitePart, siteParts, sameNumber, sameAccount, sameSite, agree, agreeWith, allAgree, statementText}
+use Rattle.statements.specs.Statement.{stated}
 use Rattle.statements.specs.Examples.{siteFigures, threeFigures, threeText}
 
 -- site 2 is down

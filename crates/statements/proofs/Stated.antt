@@ -7,18 +7,16 @@ use mathlib.Core.Bool.{true, false}
 use mathlib.Core.List.{List, [], _∷_, _++_}
 use native.Mathlib.Omega.{arith}
 use lib.IntN.{ℤ}
-use lib.ListN.{length, take, drop, length-append}
+use lib.ListN.{length, take, drop}
 use borrow.Author.Tests.{eq-eqb, ne-eqb, le-ltb}
-use Rattle.posting.specs.Kinds.{accounts}
-use Rattle.books.specs.Books.{blank, books, numbers}
-use Rattle.books.proofs.Blocks.{length-numbers}
 use Rattle.machine.specs.declared.Board.{Board}
 use Rattle.machine.specs.declared.Call.{Call}
 use Rattle.machine.specs.declared.Outcome.{Outcome}
 use Rattle.machine.specs.Soundness.{isSound}
 use Rattle.machine.specs.Calls.{refusalOf}
 use Rattle.machine.specs.Runs.{taking, running}
-use Rattle.machine.specs.Figures.{recordOf, figuresOf, figuresOfAll, shown, showingAll}
+use Rattle.machine.proofs.Showing.{length-all}
+use Rattle.machine.specs.Figures.{figuresOfAll, shown, showingAll}
 use Rattle.drain.specs.declared.Drained.{Drained}
 use Rattle.drain.specs.Drain.{Next, none, event, nextEvent, draining, drained}
 use Rattle.drain.proofs.Loop.{draining-none, draining-event}
@@ -60,22 +58,15 @@ module _ (b last : Board) (calls : List Call) (h : StaysSound b) (e : last ≡ r
   pub last-sound : isSound last ≡ true
   last-sound = rw e (h calls)
 
-  module _ (d : Drained) (ed : d ≡ draining drainLimit drainLimit 0 last) where
-    pub quiet-sound : isSound (d .board) ≡ true
-    quiet-sound = rw (ed, e) (drain-stays drainLimit drainLimit 0 (running b calls) (run-stays b calls h))
+  -- a drain with any limit leaves the board sound
+  pub quiet-sound : (limit : ℕ) (d : Drained) → d ≡ draining limit limit 0 last → isSound (d .board) ≡ true
+  quiet-sound limit d ed = rw (ed, e) (drain-stays limit limit 0 (running b calls) (run-stays b calls h))
 
-    pub run-stated : statementOf (d .board) ≡ statedRun b calls
-    unfolding statedRun drained
-    run-stated = rw (ed, e, h calls)
+  pub run-stated : (d : Drained) → d ≡ draining drainLimit drainLimit 0 last → statementOf (d .board) ≡ statedRun b calls
+  unfolding statedRun drained
+  run-stated d ed = rw (ed, e, h calls)
 
 -- ---- the figures
-
-figures-length : (b : Board) (n : ℕ) → length (figuresOfAll b n) ≡ 64 * n
-unfolding figuresOfAll figuresOf
-figures-length b zero = refl
-figures-length b (suc n) =
-    let one = books blank (b .table) (recordOf b n) in
-    omega (arith, length-append (figuresOfAll b n) (numbers one), figures-length b n, length-numbers accounts one)
 
 take-first : {A : Type 0} (a b : List A) (n : ℕ) → length a ≡ n → take n (a ++ b) ≡ a
 take-first [] b zero e = refl
@@ -90,7 +81,7 @@ unfolding showingAll shown
 all-filled b slice left count sound e ec room =
     let n = b .setup .n in
     let h : 64 * n ≤ length slice = omega arith in
-    rw (e, sound, le-ltb (length slice) (64 * n) h) (take-first (figuresOfAll b n) (drop (length (figuresOfAll b n)) slice) count (omega (arith, figures-length b n)))
+    rw (e, sound, le-ltb (length slice) (64 * n) h) (take-first (figuresOfAll b n) (drop (length (figuresOfAll b n)) slice) count (omega (arith, length-all b n)))
 
 -- ---- inputs
 

@@ -1,4 +1,4 @@
 -- Statement: what the program prints. Examples: a statement by its numbers and bytes.
--- Rests on decoder, printer, drain, machine, books, posting and sets.
+-- Rests on figures_table, decoder, printer, drain and machine.
 pub mod Statement
 pub mod Examples

@@ -1,5 +1,5 @@
 // The program `statement`: a run file is run, the board drained to quiet, and the books of every site printed.
-// Rests on lines, on decoder and runfile for the file and its run, on printer for what is printed, on drain and machine.
+// Rests on figures_table for the lines, on decoder and runfile for the file and its run, on printer for what is printed, on drain and machine.
 ghost use Prim.Native.Nat.{_≤_};
 ghost use mathlib.Core.Path.{_≡_};
 ghost use mathlib.Core.Bool.{true};
@@ -12,16 +12,13 @@ use decoder::file::EVENTS;
 use decoder::file::setup_of;
 use decoder::file::well_formed;
 use drain::drain_sound;
-use lines::print_statement;
+use figures_table::lines::print_statement;
 use machine::Board;
 use printer::Printed;
 use printer::print::print_refused;
 use printer::print::wide;
 use runfile::run::refusal_of;
 use runfile::run::run_events;
-
-pub mod lines;
-pub mod same;
 
 // How many numbers the books of a site have, and those of all sites that there can be.
 const FIGURES: usize = 64;

@@ -10,7 +10,8 @@ use lib.Seq.{length-take-le}
 use Rattle.machine.proofs.Typed.{is-board}
 use Rattle.machine.proofs.Facts.{few}
 use Rattle.runfile.proofs.Programs.{printed-as}
-use Rattle.statements.specs.Statement.{statementText, statementOf}
+use Rattle.figures_table.specs.Table.{statementText}
+use Rattle.statements.specs.Statement.{statementOf}
 use Rattle.statements.proofs.Stated.{all-filled}
 use borrow.Author.Needs.{needs}
 use Rattle.statements.proofs.print_board.Statement.{statement}

@@ -17,7 +17,7 @@ drain-sound-requires : tie.Need-drain-sound-requires
 drain-sound-requires c κs = last-sound (c .before .before .before .before .before .args .board) _ (callsOf (c .before .before .before .before .before .args .input .now)) (c .before .before .before .before .before .pre .0) (c .before .run-events .ensures .0)
 
 print-board-requires : tie.Need-print-board-requires
-print-board-requires c κs = quiet-sound (c .before .before .before .before .before .before .before .before .args .board) _ (callsOf (c .before .before .before .before .before .before .before .before .args .input .now)) (c .before .before .before .before .before .before .before .before .pre .0) (c .before .before .before .before .run-events .ensures .0) _ (c .before .before .drain-sound .ensures)
+print-board-requires c κs = quiet-sound (c .before .before .before .before .before .before .before .before .args .board) _ (callsOf (c .before .before .before .before .before .before .before .before .args .input .now)) (c .before .before .before .before .before .before .before .before .pre .0) (c .before .before .before .before .run-events .ensures .0) _ _ (c .before .before .drain-sound .ensures)
 
 same-length : tie.Need-same-length
 same-length c = search needs

@@ -7,12 +7,11 @@ use mathlib.Core.Path.{_≡_, sym, ap, _∙_}
 use native.Mathlib.Omega.{arith}
 use borrow.Author.Needs.{needs}
 use borrow.Author.Tests.{not-true, not-false}
-use Rattle.sets.specs.BelowLaws.{all-fails}
+use Rattle.sets.specs.BelowLaws.{all-none, all-more, all-fails}
 use Rattle.sets.specs.Below.{allBelow}
 use Rattle.posting.proofs.Pairs.{is-false}
 use Rattle.posting.specs.declared.Record.{Record}
 use Rattle.exported.specs.Bytes.{siteRecord, siteCount, recordOk, eachOk}
-use Rattle.exported.proofs.Loops.{all-none, all-more}
 use Rattle.exported.proofs.bytes.each_ok.Statement.{statement}
 use Rattle.exported.proofs.bytes.each_ok.Tie as tie
 

@@ -9,11 +9,10 @@ use lib.ListN.{getD}
 use borrow.Author.Needs.{needs}
 use borrow.Author.Tests.{lt-ltb, le-ltb, le-leb, lt-leb}
 use Rattle.sets.specs.Below.{allBelow}
-use Rattle.sets.specs.BelowLaws.{all-fails}
+use Rattle.sets.specs.BelowLaws.{all-none, all-more, all-fails}
 use Rattle.sets.specs.Sets.{capacity}
 use Rattle.posting.specs.declared.Record.{Record}
 use Rattle.exported.specs.Bytes.{recordOk}
-use Rattle.exported.proofs.Loops.{all-none, all-more}
 use Rattle.exported.proofs.bytes.record_ok.Statement.{statement}
 use Rattle.exported.proofs.bytes.record_ok.Tie as tie
 

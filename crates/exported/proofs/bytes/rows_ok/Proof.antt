@@ -8,11 +8,10 @@ use native.Mathlib.Omega.{arith}
 use borrow.Author.Needs.{needs}
 use borrow.Author.Tests.{not-true, not-false}
 use Rattle.sets.specs.Below.{allBelow}
-use Rattle.sets.specs.BelowLaws.{all-fails}
+use Rattle.sets.specs.BelowLaws.{all-none, all-more, all-fails}
 use Rattle.posting.specs.Kinds.{fieldsOk}
 use Rattle.posting.proofs.Pairs.{is-false}
 use Rattle.exported.specs.Bytes.{rowAt, rowCount, rowsOk}
-use Rattle.exported.proofs.Loops.{all-none, all-more}
 use Rattle.exported.proofs.bytes.rows_ok.Statement.{statement}
 use Rattle.exported.proofs.bytes.rows_ok.Tie as tie
 

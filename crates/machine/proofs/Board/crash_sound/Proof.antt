@@ -14,26 +14,20 @@ use Rattle.machine.proofs.Board.crash_sound.Tie as tie
 site-refusal-requires : tie.Need-site-refusal-requires
 site-refusal-requires c κs = search needs
 
-refused-requires : tie.Need-refused-requires
-refused-requires c κs = search needs
-
 returns : tie.Need-returns
 returns c =
-    let at = c .before .before in
+    let at = c .before in
     let at2 = at .before .before in
-    c .refused .ensures ∙ crash-site (at2 .args .self) (at2 .pre) (at2 .args .site) _ (at .site-refusal .ensures) (c .before .if1 .taken)
+    crash-site (at2 .args .self) (at2 .pre) (at2 .args .site) _ (at .site-refusal .ensures) (c .if1 .taken)
 
 cast-crashes : tie.Need-cast-crashes
 cast-crashes c = search needs
 
-refused-requires-2 : tie.Need-refused-requires-2
-refused-requires-2 c κs = search needs
-
 returns-2 : tie.Need-returns-2
 returns-2 c =
-    let at = c .before .before .before .before in
+    let at = c .before .before .before in
     let at2 = at .before .before .before in
-    c .refused2 .ensures ∙ crash-spent (at2 .args .self) (at2 .pre) (at2 .args .site) _ (at .before .site-refusal .ensures) (at .if1 .left) (c .before .if2 .taken)
+    crash-spent (at2 .args .self) (at2 .pre) (at2 .args .site) _ (at .before .site-refusal .ensures) (at .if1 .left) (c .if2 .taken)
 
 cast-with-site : tie.Need-cast-with-site
 cast-with-site c =
@@ -46,30 +40,24 @@ cast-with-site c =
 with-site-requires : tie.Need-with-site-requires
 with-site-requires c κs = search needs
 
-done-requires : tie.Need-done-requires
-done-requires c κs = search needs
-
 returns-3 : tie.Need-returns-3
 returns-3 c =
-    let at = c .before .before in
+    let at = c .before in
     let at2 = at .before .before .before in
     let at3 = at2 .before .before .before in
     let sites-few = few (at3 .args .self) (is-board (at3 .args .self) _ (at3 .good .0) .flight .masks .long) (at3 .pre) in
     let there = site-there (at3 .args .self .setup .n) (at3 .args .self .down) (at3 .args .site) _ (at2 .before .site-refusal .ensures) (at2 .if1 .left) in
     let below : at3 .args .site < 7 = omega arith in
-    c .done .ensures ∙ crash-done (at3 .args .self) (at3 .pre) (at3 .args .site) _ (at2 .before .site-refusal .ensures) (at2 .if1 .left) (at .if2 .left) _ (c .before .with-site .ensures ∙ rw (only-site (at3 .args .site) below))
+    crash-done (at3 .args .self) (at3 .pre) (at3 .args .site) _ (at2 .before .site-refusal .ensures) (at2 .if1 .left) (at .if2 .left) _ (c .with-site .ensures ∙ rw (only-site (at3 .args .site) below))
 
 pub crash-sound-spec : {M : Type 1} → statement M
 crash-sound-spec =
     tie.close
     (tie.spec
     site-refusal-requires
-    refused-requires
     returns
     cast-crashes
-    refused-requires-2
     returns-2
     cast-with-site
     with-site-requires
-    done-requires
     returns-3)

@@ -19,15 +19,12 @@ use Rattle.machine.proofs.Board.offer_sound.Tie as tie
 site-refusal-requires : tie.Need-site-refusal-requires
 site-refusal-requires c κs = search needs
 
-refused-requires : tie.Need-refused-requires
-refused-requires c κs = search needs
-
 returns : tie.Need-returns
 returns c =
-    let at = c .before .before in
+    let at = c .before in
     let at2 = at .before .before in
     let sites-few = few (at2 .args .t1) (is-board (at2 .args .t1) _ (at2 .good .0) .flight .masks .long) (at2 .pre) in
-    c .refused .ensures ∙ offer-site (at2 .args .t1) (at2 .pre) (at2 .args .site) (at2 .args .kind) (at2 .args .account) (at2 .args .other) (at2 .args .amount) (at2 .args .cut) sites-few _ (at .site-refusal .ensures) (c .before .if1 .taken)
+    offer-site (at2 .args .t1) (at2 .pre) (at2 .args .site) (at2 .args .kind) (at2 .args .account) (at2 .args .other) (at2 .args .amount) (at2 .args .cut) sites-few _ (at .site-refusal .ensures) (c .if1 .taken)
 
 cast-cut-refusal : tie.Need-cast-cut-refusal
 cast-cut-refusal c =
@@ -39,16 +36,13 @@ cast-cut-refusal c =
 offer-refusal-requires : tie.Need-offer-refusal-requires
 offer-refusal-requires c κs = search needs
 
-refused-requires-2 : tie.Need-refused-requires-2
-refused-requires-2 c κs = search needs
-
 returns-2 : tie.Need-returns-2
 returns-2 c =
-    let at = c .before .before in
+    let at = c .before in
     let at2 = at .before .before in
     let at3 = at2 .before .before .before in
     let sites-few = few (at3 .args .t1) (is-board (at3 .args .t1) _ (at3 .good .0) .flight .masks .long) (at3 .pre) in
-    c .refused2 .ensures ∙ offer-fields (at3 .args .t1) (at3 .pre) (at3 .args .site) (at3 .args .kind) (at3 .args .account) (at3 .args .other) (at3 .args .amount) (at3 .args .cut) sites-few _ (at2 .before .site-refusal .ensures) (at2 .if1 .left) _ (at .offer-refusal .ensures) (c .before .if2 .taken)
+    offer-fields (at3 .args .t1) (at3 .pre) (at3 .args .site) (at3 .args .kind) (at3 .args .account) (at3 .args .other) (at3 .args .amount) (at3 .args .cut) sites-few _ (at2 .before .site-refusal .ensures) (at2 .if1 .left) _ (at .offer-refusal .ensures) (c .if2 .taken)
 
 mul-own : tie.Need-mul-own
 mul-own c =
@@ -86,18 +80,15 @@ on-offer-requires c κs = search needs
 cut-refusal-requires : tie.Need-cut-refusal-requires
 cut-refusal-requires c κs = search needs
 
-refused-requires-3 : tie.Need-refused-requires-3
-refused-requires-3 c κs = search needs
-
 returns-3 : tie.Need-returns-3
 returns-3 c =
-    let at = c .before .before in
+    let at = c .before in
     let at2 = at .before .before in
     let at3 = at2 .before .before .before in
     let at4 = at3 .before .before .before in
     let at5 = at4 .before .before .before in
     let sites-few = few (at5 .args .t1) (is-board (at5 .args .t1) _ (at5 .good .0) .flight .masks .long) (at5 .pre) in
-    c .refused3 .ensures ∙ offer-late (at5 .args .t1) (at5 .pre) (at5 .args .site) (at5 .args .kind) (at5 .args .account) (at5 .args .other) (at5 .args .amount) (at5 .args .cut) sites-few _ (at4 .before .site-refusal .ensures) (at4 .if1 .left) _ (at3 .before .offer-refusal .ensures) (at3 .if2 .left) _ (at .cut-refusal .ensures ∙ rw (at2 .on-offer .ensures)) (c .before .if3 .taken)
+    offer-late (at5 .args .t1) (at5 .pre) (at5 .args .site) (at5 .args .kind) (at5 .args .account) (at5 .args .other) (at5 .args .amount) (at5 .args .cut) sites-few _ (at4 .before .site-refusal .ensures) (at4 .if1 .left) _ (at3 .before .offer-refusal .ensures) (at3 .if2 .left) _ (at .cut-refusal .ensures ∙ rw (at2 .on-offer .ensures)) (c .if3 .taken)
 
 with-row-requires : tie.Need-with-row-requires
 with-row-requires c κs =
@@ -132,11 +123,9 @@ offer-sound-spec =
     tie.close
     (tie.spec
     site-refusal-requires
-    refused-requires
     returns
     cast-cut-refusal
     offer-refusal-requires
-    refused-requires-2
     returns-2
     mul-own
     element-copy-out-own
@@ -144,7 +133,6 @@ offer-sound-spec =
     element-copy-out-tally
     on-offer-requires
     cut-refusal-requires
-    refused-requires-3
     returns-3
     with-row-requires
     carry-out-requires

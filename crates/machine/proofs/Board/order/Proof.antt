@@ -17,15 +17,12 @@ order-sound-requires c κs =
 returns : tie.Need-returns
 returns c = search needs
 
-refused-requires : tie.Need-refused-requires
-refused-requires c κs = search needs
-
 returns-2 : tie.Need-returns-2
 unfolding ordering
 returns-2 c =
-    let at = c .before .before in
-    c .refused .ensures ∙ unsound-refused (at .before .args .self) (sym (at .is-sound .ensures) ∙ c .before .if1 .left) _ _
+    let at = c .before in
+    unsound-refused (at .before .args .self) (sym (at .is-sound .ensures) ∙ c .if1 .left) _ _
 
 pub order-spec : {M : Type 1} → statement M
 order-spec =
-    tie.close (tie.spec is-sound-requires order-sound-requires returns refused-requires returns-2)
+    tie.close (tie.spec is-sound-requires order-sound-requires returns returns-2)

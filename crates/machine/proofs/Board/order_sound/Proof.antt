@@ -15,24 +15,18 @@ without-requires c κs = search needs
 append-requires : tie.Need-append-requires
 append-requires c κs = search needs
 
-done-requires : tie.Need-done-requires
-done-requires c κs = search needs
-
 returns : tie.Need-returns
 returns c =
-    let at = c .before .before in
+    let at = c .before in
     let at2 = at .before .before in
     let at3 = at2 .before .before .before in
-    c .done .ensures ∙ order-done (at3 .args .self) (at3 .pre) (at3 .args .m) (sym (at2 .before .has .ensures) ∙ at2 .if1 .taken) _ _ (at .without .ensures) (c .before .append .ensures)
-
-refused-requires : tie.Need-refused-requires
-refused-requires c κs = search needs
+    order-done (at3 .args .self) (at3 .pre) (at3 .args .m) (sym (at2 .before .has .ensures) ∙ at2 .if1 .taken) _ _ (at .without .ensures) (c .append .ensures)
 
 returns-2 : tie.Need-returns-2
 returns-2 c =
-    let at = c .before .before in
+    let at = c .before in
     let at2 = at .before .before in
-    c .refused .ensures ∙ order-refused (at2 .args .self) (at2 .pre) (at2 .args .m) (sym (at .has .ensures) ∙ c .before .if1 .left)
+    order-refused (at2 .args .self) (at2 .pre) (at2 .args .m) (sym (at .has .ensures) ∙ c .if1 .left)
 
 pub order-sound-spec : {M : Type 1} → statement M
 order-sound-spec =
@@ -41,7 +35,5 @@ order-sound-spec =
     has-requires
     without-requires
     append-requires
-    done-requires
     returns
-    refused-requires
     returns-2)

@@ -38,11 +38,8 @@ named c =
 site-refusal-requires : tie.Need-site-refusal-requires
 site-refusal-requires c κs = search needs
 
-refused-requires : tie.Need-refused-requires
-refused-requires c κs = search needs
-
 returns : tie.Need-returns
-returns c = let start = c .before .before .before .before in c .refused .ensures ∙ read-site (start .args .self) (start .pre) (start .args .site) (start .args .cut) _ (c .before .before .site-refusal .ensures) (c .before .if1 .taken)
+returns c = let start = c .before .before .before in read-site (start .args .self) (start .pre) (start .args .site) (start .args .cut) _ (c .before .site-refusal .ensures) (c .if1 .taken)
 
 mul-own : tie.Need-mul-own
 mul-own c = omega (arith, acts c)
@@ -50,20 +47,14 @@ mul-own c = omega (arith, acts c)
 element-copy-out-own : tie.Need-element-copy-out-own
 element-copy-out-own c = acts c
 
-refused-requires-2 : tie.Need-refused-requires-2
-refused-requires-2 c κs = search needs
-
 returns-2 : tie.Need-returns-2
-returns-2 c = let start = c .before .before .before .before .before .before .before in let acted = c .before .before .before .before in c .refused2 .ensures ∙ read-ended (start .args .self) (start .pre) (start .args .site) (start .args .cut) _ (acted .before .site-refusal .ensures) (acted .if1 .left) (c .before .if2 .taken)
+returns-2 c = let start = c .before .before .before .before .before .before in let acted = c .before .before .before in read-ended (start .args .self) (start .pre) (start .args .site) (start .args .cut) _ (acted .before .site-refusal .ensures) (acted .if1 .left) (c .if2 .taken)
 
 cut-refusal-requires : tie.Need-cut-refusal-requires
 cut-refusal-requires c κs = search needs
 
-refused-requires-3 : tie.Need-refused-requires-3
-refused-requires-3 c κs = search needs
-
 returns-3 : tie.Need-returns-3
-returns-3 c = let start = c .before .before .before .before .before .before .before .before .before in let acted = c .before .before .before .before .before .before in c .refused3 .ensures ∙ read-late (start .args .self) (start .pre) (start .args .site) (start .args .cut) _ (acted .before .site-refusal .ensures) (acted .if1 .left) (c .before .before .before .if2 .left) _ (c .before .before .cut-refusal .ensures ∙ unfold ones in refl) (c .before .if3 .taken)
+returns-3 c = let start = c .before .before .before .before .before .before .before .before in let acted = c .before .before .before .before .before in read-late (start .args .self) (start .pre) (start .args .site) (start .args .cut) _ (acted .before .site-refusal .ensures) (acted .if1 .left) (c .before .before .if2 .left) _ (c .before .cut-refusal .ensures ∙ unfold ones in refl) (c .if3 .taken)
 
 element-copy-out-m : tie.Need-element-copy-out-m
 element-copy-out-m c = omega (arith, in-log (c .before .before))
@@ -95,32 +86,25 @@ cast-down-after c = omega (arith, acts (c .before .before .before .before .befor
 down-after-requires : tie.Need-down-after-requires
 down-after-requires c κs = search needs
 
-done-requires : tie.Need-done-requires
-done-requires c κs = search needs
-
 returns-4 : tie.Need-returns-4
 returns-4 c =
-    let start = c .before .before .before .before .before .before .before .before .before .before .before .before .before .before in
-    let acted = c .before .before .before .before .before .before .before .before .before .before .before in
+    let start = c .before .before .before .before .before .before .before .before .before .before .before .before .before in
+    let acted = c .before .before .before .before .before .before .before .before .before .before in
     let self = start .args .self in
-    c .done .ensures
-    ∙ read-law self (start .pre) (start .args .site) (start .args .cut) _ (acted .before .site-refusal .ensures) (acted .if1 .left) (c .before .before .before .before .before .before .before .before .if2 .left) _
-    (c .before .before .before .before .before .before .before .cut-refusal .ensures ∙ unfold ones in refl) (log-within self (long start) (start .pre)) (c .before .before .before .before .before .before .if3 .left)
-    _ (c .before .before .before .on-entry .ensures) (acts acted) _ _ (c .before .before .entry-to .ensures) (c .before .down-after .ensures)
+    read-law self (start .pre) (start .args .site) (start .args .cut) _ (acted .before .site-refusal .ensures) (acted .if1 .left) (c .before .before .before .before .before .before .before .if2 .left) _
+    (c .before .before .before .before .before .before .cut-refusal .ensures ∙ unfold ones in refl) (log-within self (long start) (start .pre)) (c .before .before .before .before .before .if3 .left)
+    _ (c .before .before .on-entry .ensures) (acts acted) _ _ (c .before .entry-to .ensures) (c .down-after .ensures)
 
 pub read-sound-spec : {M : Type 1} → statement M
 read-sound-spec =
     tie.close
     (tie.spec
     site-refusal-requires
-    refused-requires
     returns
     mul-own
     element-copy-out-own
-    refused-requires-2
     returns-2
     cut-refusal-requires
-    refused-requires-3
     returns-3
     element-copy-out-m
     cast-m
@@ -132,5 +116,4 @@ read-sound-spec =
     element-set-from-after
     cast-down-after
     down-after-requires
-    done-requires
     returns-4)

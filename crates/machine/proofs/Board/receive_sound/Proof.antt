@@ -13,14 +13,11 @@ use Rattle.machine.proofs.Board.receive_sound.Tie as tie
 message-refusal-requires : tie.Need-message-refusal-requires
 message-refusal-requires c κs = search needs
 
-refused-requires : tie.Need-refused-requires
-refused-requires c κs = search needs
-
 returns : tie.Need-returns
 returns c =
-    let at = c .before .before in
+    let at = c .before in
     let at2 = at .before .before in
-    c .refused .ensures ∙ receive-site (at2 .args .self) (at2 .pre) (is-board (at2 .args .self) _ (at2 .good .0) .flight .masks .long) (at2 .args .form) (at2 .args .m) (at2 .args .from) (at2 .args .to) (at2 .args .cut) _ (at .message-refusal .ensures) (c .before .if1 .taken)
+    receive-site (at2 .args .self) (at2 .pre) (is-board (at2 .args .self) _ (at2 .good .0) .flight .masks .long) (at2 .args .form) (at2 .args .m) (at2 .args .from) (at2 .args .to) (at2 .args .cut) _ (at .message-refusal .ensures) (c .if1 .taken)
 
 in-flight-requires : tie.Need-in-flight-requires
 in-flight-requires c κs = search needs
@@ -85,19 +82,16 @@ receipt-requires c κs = search needs
 cut-refusal-requires : tie.Need-cut-refusal-requires
 cut-refusal-requires c κs = search needs
 
-refused-requires-2 : tie.Need-refused-requires-2
-refused-requires-2 c κs = search needs
-
 returns-2 : tie.Need-returns-2
 returns-2 c =
-    let at = c .before .before in
+    let at = c .before in
     let at2 = at .before .before in
     let at3 = at2 .before .before .before .before in
     let at4 = at3 .before .before .before in
     let at5 = at4 .before .before .before in
     let at6 = at5 .before .before .before .before in
     let at7 = at6 .before .before .before in
-    c .refused2 .ensures ∙ receive-late (at7 .args .self) (at7 .pre) (is-board (at7 .args .self) _ (at7 .good .0) .flight .masks .long) (at7 .args .form) (at7 .args .m) (at7 .args .from) (at7 .args .to) (at7 .args .cut) _ (at6 .before .message-refusal .ensures) (at6 .if1 .left) (message-in (at7 .args .self .flight) (at7 .args .form) (at7 .args .m) (at7 .args .from) (at7 .args .to) _ (sym (at5 .before .in-flight .ensures) ∙ at5 .if2 .taken)) _ (at .cut-refusal .ensures ∙ rw (receipt-law (at7 .args .self) (at7 .args .form) (at7 .args .m) (at7 .args .from) (at7 .args .to) _ _ _ (at2 .receipt .ensures) (at4 .is-good .ensures) (at3 .carried-set .ensures))) (c .before .if3 .taken)
+    receive-late (at7 .args .self) (at7 .pre) (is-board (at7 .args .self) _ (at7 .good .0) .flight .masks .long) (at7 .args .form) (at7 .args .m) (at7 .args .from) (at7 .args .to) (at7 .args .cut) _ (at6 .before .message-refusal .ensures) (at6 .if1 .left) (message-in (at7 .args .self .flight) (at7 .args .form) (at7 .args .m) (at7 .args .from) (at7 .args .to) _ (sym (at5 .before .in-flight .ensures) ∙ at5 .if2 .taken)) _ (at .cut-refusal .ensures ∙ rw (receipt-law (at7 .args .self) (at7 .args .form) (at7 .args .m) (at7 .args .from) (at7 .args .to) _ _ _ (at2 .receipt .ensures) (at4 .is-good .ensures) (at3 .carried-set .ensures))) (c .if3 .taken)
 
 take-out-requires : tie.Need-take-out-requires
 take-out-requires c κs = search needs
@@ -119,12 +113,9 @@ carry-out-requires c κs =
     let at-place = message-placed (at6 .args .self) (at6 .args .form) (at6 .args .m) (at6 .args .from) (at6 .args .to) (message-in (at6 .args .self .flight) (at6 .args .form) (at6 .args .m) (at6 .args .from) (at6 .args .to) _ (sym (at4 .before .in-flight .ensures) ∙ at4 .if2 .taken)) in
     (at-place .to-below, at-place .posting-below, rw (receipt-law (at6 .args .self) (at6 .args .form) (at6 .args .m) (at6 .args .from) (at6 .args .to) _ _ _ (at .receipt .ensures) (at3 .is-good .ensures) (at2 .carried-set .ensures)) (receipt-fits (at6 .args .self) (at6 .args .form) (at6 .args .m) (at6 .args .from) (at6 .args .to)))
 
-done-requires : tie.Need-done-requires
-done-requires c κs = search needs
-
 returns-3 : tie.Need-returns-3
 returns-3 c =
-    let at = c .before .before in
+    let at = c .before in
     let at2 = at .before .before in
     let at3 = at2 .before .before in
     let at4 = at3 .before .before in
@@ -134,24 +125,20 @@ returns-3 c =
     let at8 = at7 .before .before .before in
     let at9 = at8 .before .before .before .before in
     let at10 = at9 .before .before .before in
-    c .done .ensures ∙ receive-done (at10 .args .self) (at10 .pre) (is-board (at10 .args .self) _ (at10 .good .0) .flight .masks .long) (at10 .args .form) (at10 .args .m) (at10 .args .from) (at10 .args .to) (at10 .args .cut) _ (at9 .before .message-refusal .ensures) (at9 .if1 .left) (message-in (at10 .args .self .flight) (at10 .args .form) (at10 .args .m) (at10 .args .from) (at10 .args .to) _ (sym (at8 .before .in-flight .ensures) ∙ at8 .if2 .taken)) _ (at4 .before .cut-refusal .ensures ∙ rw (receipt-law (at10 .args .self) (at10 .args .form) (at10 .args .m) (at10 .args .from) (at10 .args .to) _ _ _ (at5 .receipt .ensures) (at7 .is-good .ensures) (at6 .carried-set .ensures))) (at4 .if3 .left) _ (taken-law (at10 .args .self) (at10 .args .form) (at10 .args .m) (at10 .args .from) (at10 .args .to) (at10 .args .cut) _ _ _ _ _ (receipt-law (at10 .args .self) (at10 .args .form) (at10 .args .m) (at10 .args .from) (at10 .args .to) _ _ _ (at5 .receipt .ensures) (at7 .is-good .ensures) (at6 .carried-set .ensures)) (at3 .take-out .ensures) (at2 .clear-good .ensures) (at .clear-carried .ensures) (c .before .carry-out .ensures))
-
-refused-requires-3 : tie.Need-refused-requires-3
-refused-requires-3 c κs = search needs
+    receive-done (at10 .args .self) (at10 .pre) (is-board (at10 .args .self) _ (at10 .good .0) .flight .masks .long) (at10 .args .form) (at10 .args .m) (at10 .args .from) (at10 .args .to) (at10 .args .cut) _ (at9 .before .message-refusal .ensures) (at9 .if1 .left) (message-in (at10 .args .self .flight) (at10 .args .form) (at10 .args .m) (at10 .args .from) (at10 .args .to) _ (sym (at8 .before .in-flight .ensures) ∙ at8 .if2 .taken)) _ (at4 .before .cut-refusal .ensures ∙ rw (receipt-law (at10 .args .self) (at10 .args .form) (at10 .args .m) (at10 .args .from) (at10 .args .to) _ _ _ (at5 .receipt .ensures) (at7 .is-good .ensures) (at6 .carried-set .ensures))) (at4 .if3 .left) _ (taken-law (at10 .args .self) (at10 .args .form) (at10 .args .m) (at10 .args .from) (at10 .args .to) (at10 .args .cut) _ _ _ _ _ (receipt-law (at10 .args .self) (at10 .args .form) (at10 .args .m) (at10 .args .from) (at10 .args .to) _ _ _ (at5 .receipt .ensures) (at7 .is-good .ensures) (at6 .carried-set .ensures)) (at3 .take-out .ensures) (at2 .clear-good .ensures) (at .clear-carried .ensures) (c .carry-out .ensures))
 
 returns-4 : tie.Need-returns-4
 returns-4 c =
-    let at = c .before .before in
+    let at = c .before in
     let at2 = at .before .before .before in
     let at3 = at2 .before .before .before in
-    c .refused3 .ensures ∙ receive-none (at3 .args .self) (at3 .pre) (is-board (at3 .args .self) _ (at3 .good .0) .flight .masks .long) (at3 .args .form) (at3 .args .m) (at3 .args .from) (at3 .args .to) (at3 .args .cut) _ (at2 .before .message-refusal .ensures) (at2 .if1 .left) (message-in (at3 .args .self .flight) (at3 .args .form) (at3 .args .m) (at3 .args .from) (at3 .args .to) _ (sym (at .in-flight .ensures) ∙ c .before .if2 .left))
+    receive-none (at3 .args .self) (at3 .pre) (is-board (at3 .args .self) _ (at3 .good .0) .flight .masks .long) (at3 .args .form) (at3 .args .m) (at3 .args .from) (at3 .args .to) (at3 .args .cut) _ (at2 .before .message-refusal .ensures) (at2 .if1 .left) (message-in (at3 .args .self .flight) (at3 .args .form) (at3 .args .m) (at3 .args .from) (at3 .args .to) _ (sym (at .in-flight .ensures) ∙ c .if2 .left))
 
 pub receive-sound-spec : {M : Type 1} → statement M
 receive-sound-spec =
     tie.close
     (tie.spec
     message-refusal-requires
-    refused-requires
     returns
     in-flight-requires
     is-good-requires
@@ -164,13 +151,10 @@ receive-sound-spec =
     cast-receipt-2
     receipt-requires
     cut-refusal-requires
-    refused-requires-2
     returns-2
     take-out-requires
     clear-good-requires
     clear-carried-requires
     carry-out-requires
-    done-requires
     returns-3
-    refused-requires-3
     returns-4)

@@ -1,0 +1,3 @@
+-- What the proofs of the loops share.
+-- Rests on the specs.
+pub mod Blocks

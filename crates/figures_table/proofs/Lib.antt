@@ -1,0 +1,3 @@
+-- What the proofs of figures_table share.
+-- Assumes nothing.
+pub mod Figures
