@@ -10,8 +10,8 @@ use Rattle.posting.specs.declared.Table.{Table}
 use Rattle.posting.specs.Conflicts.{offered, row, tableWith}
 use Rattle.machine.specs.declared.Board.{Board}
 use Rattle.steps.specs.declared.Cut.{Cut}
-use Rattle.machine.specs.declared.Call.{Call}
-use Rattle.machine.specs.declared.Call.the-variants.{Offer, Receive, Order, Read, Crash}
+use Rattle.steps.specs.declared.Call.{Call}
+use Rattle.steps.specs.declared.Call.the-variants.{Offer, Receive, Order, Read, Crash}
 use Rattle.machine.specs.Boards.{boardTable, boardFlight}
 use Rattle.flight.specs.Flights.{takingOut}
 use Rattle.machine.specs.Calls.{carriedOut, receiptOf}

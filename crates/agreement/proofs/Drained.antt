@@ -13,8 +13,8 @@ use Rattle.sets.specs.Sets.{capacity}
 use Rattle.site.specs.declared.Setup.{Setup}
 use Rattle.site.specs.Sites.{sites}
 use Rattle.machine.specs.declared.Board.{Board}
-use Rattle.machine.specs.declared.Call.{Call}
-use Rattle.machine.specs.declared.Call.the-variants.{Offer, Receive, Order, Read, Crash}
+use Rattle.steps.specs.declared.Call.{Call}
+use Rattle.steps.specs.declared.Call.the-variants.{Offer, Receive, Order, Read, Crash}
 use Rattle.machine.specs.Boards.{freshBoard}
 use Rattle.machine.specs.Soundness.{isSound, setupOk}
 use Rattle.machine.specs.Calls.{starting}

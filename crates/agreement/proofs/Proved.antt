@@ -24,7 +24,7 @@ use Rattle.site.specs.declared.Setup.{Setup}
 use Rattle.site.specs.Sends.{FIRST, SECOND, THIRD, DELIVER}
 use Rattle.site.specs.Steps.{ownerOf}
 use Rattle.machine.specs.declared.Board.{Board}
-use Rattle.machine.specs.declared.Call.{Call}
+use Rattle.steps.specs.declared.Call.{Call}
 use Rattle.machine.specs.Boards.{freshBoard, siteAt, isDown}
 use Rattle.machine.specs.Soundness.{setupOk}
 use Rattle.machine.specs.Calls.{starting}

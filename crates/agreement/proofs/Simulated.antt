@@ -18,8 +18,8 @@ use Rattle.flight.specs.Flights.{inFlight}
 use Rattle.flight.specs.ArrayLaws.{message-range}
 use Rattle.machine.specs.declared.Board.{Board}
 use Rattle.steps.specs.declared.Cut.{Cut}
-use Rattle.machine.specs.declared.Call.{Call}
-use Rattle.machine.specs.declared.Call.the-variants.{Offer, Receive, Order, Read, Crash}
+use Rattle.steps.specs.declared.Call.{Call}
+use Rattle.steps.specs.declared.Call.the-variants.{Offer, Receive, Order, Read, Crash}
 use Rattle.machine.specs.Boards.{freshBoard, boardTable, siteAt}
 use Rattle.posting.specs.Conflicts.{tableWith}
 use Rattle.machine.specs.Calls.{receiptOf, offering, receiving, ordering, reading, crashing}

@@ -9,7 +9,7 @@ use Rattle.sets.specs.Sets.{has}
 use Rattle.posting.specs.Conflicts.{noPosting, row, conflict}
 use Rattle.books.specs.Books.{blank, books, numbers}
 use Rattle.machine.specs.declared.Board.{Board}
-use Rattle.machine.specs.declared.Call.{Call}
+use Rattle.steps.specs.declared.Call.{Call}
 use Rattle.machine.specs.Runs.{running, NothingLeft}
 use Rattle.machine.specs.History.{acceptedCalls, offers, orders, broughtDown, naming, actions}
 use Rattle.machine.specs.Figures.{recordOf, figuresOf}

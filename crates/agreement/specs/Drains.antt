@@ -8,8 +8,8 @@ use mathlib.Core.List.{List, [], _∷_, _++_}
 use lib.ListN.{length}
 use Rattle.machine.specs.declared.Board.{Board}
 use Rattle.steps.specs.declared.Cut.the-variants.{Whole, After}
-use Rattle.machine.specs.declared.Call.{Call}
-use Rattle.machine.specs.declared.Call.the-variants.{Offer, Receive, Order, Read, Crash}
+use Rattle.steps.specs.declared.Call.{Call}
+use Rattle.steps.specs.declared.Call.the-variants.{Offer, Receive, Order, Read, Crash}
 use Rattle.machine.specs.Soundness.{isSound}
 use Rattle.machine.specs.Runs.{taking, accepted, running, isAction, isQuiet}
 use Rattle.machine.specs.History.{acceptedCalls}

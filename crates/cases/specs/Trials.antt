@@ -17,7 +17,7 @@ use Rattle.books.specs.Effect.{effect}
 use Rattle.site.specs.Sends.{DELIVER}
 use Rattle.flight.specs.Flights.{inFlight}
 use Rattle.machine.specs.declared.Board.{Board}
-use Rattle.machine.specs.declared.Call.{Call}
+use Rattle.steps.specs.declared.Call.{Call}
 use Rattle.machine.specs.declared.Answer.{Answer}
 use Rattle.machine.specs.Boards.{entryAt}
 use Rattle.machine.specs.Soundness.{isSound}

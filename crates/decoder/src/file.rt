@@ -2,8 +2,8 @@
 // Rests on machine for calls and site for the setup. Past the end of the bytes zeros are read.
 ghost use mathlib.Core.Path.{_≡_};
 ghost use Rattle.decoder.specs.RunFile.{byteAt, pair, quad, hasMark, headerOk, setupOf, eventCount, lengthOk, knownCode, usedBy, usedOrZero, unusedOk, cutOk, eventOk, eventsOk, wellFormed, cutOf, offerOf, receiveOf, callOf, callAt};
-use machine::Call;
 use site::Setup;
+use steps::Call;
 use steps::Cut;
 
 // How many bytes the header has, and an event; how many events there can be.

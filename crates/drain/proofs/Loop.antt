@@ -24,8 +24,8 @@ use Rattle.flight.specs.Flights.{cells, inFlight, sendingTo, takingFrom, taking
 use Rattle.flight.specs.FloorLaws.{NoneBelow, floor-search, message-floor, nothing-floor}
 use Rattle.machine.specs.declared.Board.{Board}
 use Rattle.steps.specs.declared.Cut.the-variants.{Whole}
-use Rattle.machine.specs.declared.Call.{Call}
-use Rattle.machine.specs.declared.Call.the-variants.{Receive, Order, Read}
+use Rattle.steps.specs.declared.Call.{Call}
+use Rattle.steps.specs.declared.Call.the-variants.{Receive, Order, Read}
 use Rattle.machine.specs.Boards.{siteAt, entryAt, loggedAt, boardFlight, boardPool}
 use Rattle.machine.specs.Runs.{taking, accepted, isQuiet, upMask}
 use Rattle.machine.specs.ByMask.{placed}

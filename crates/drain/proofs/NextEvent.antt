@@ -22,8 +22,8 @@ use Rattle.flight.specs.LowestLaws.{IsLowest, lowest-found, lowest-nothing}
 use Rattle.machine.specs.declared.Board.{Board}
 use Rattle.steps.specs.declared.Cut.{Cut}
 use Rattle.steps.specs.declared.Cut.the-variants.{Whole}
-use Rattle.machine.specs.declared.Call.{Call}
-use Rattle.machine.specs.declared.Call.the-variants.{Offer, Receive, Order, Read, Crash}
+use Rattle.steps.specs.declared.Call.{Call}
+use Rattle.steps.specs.declared.Call.the-variants.{Offer, Receive, Order, Read, Crash}
 use Rattle.machine.specs.Boards.{siteAt, isDown, isUp}
 use Rattle.machine.specs.Runs.{taking, accepted, isAction, NothingLeft, isQuiet, upMask}
 use Rattle.drain.specs.Drain.{isWhole, Next, none, event, nextRead, nextOrder, nextAfter, nextEvent}

@@ -10,8 +10,8 @@ use Rattle.flight.specs.declared.Found.the-variants.{Nothing, Message}
 use Rattle.flight.specs.Flights.{lowest}
 use Rattle.machine.specs.declared.Board.{Board}
 use Rattle.steps.specs.declared.Cut.the-variants.{Whole, After}
-use Rattle.machine.specs.declared.Call.{Call}
-use Rattle.machine.specs.declared.Call.the-variants.{Offer, Receive, Order, Read, Crash}
+use Rattle.steps.specs.declared.Call.{Call}
+use Rattle.steps.specs.declared.Call.the-variants.{Offer, Receive, Order, Read, Crash}
 use Rattle.machine.specs.Boards.{siteAt, isUp}
 use Rattle.machine.specs.Soundness.{isSound}
 use Rattle.machine.specs.Runs.{taking, isQuiet, upMask}

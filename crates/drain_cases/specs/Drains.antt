@@ -6,7 +6,7 @@ use Rattle.site.specs.Sends.{FIRST, SECOND}
 use Rattle.flight.specs.Flights.{emptyFlight}
 use Rattle.machine.specs.declared.Board.{Board}
 use Rattle.steps.specs.declared.Cut.the-variants.{Whole}
-use Rattle.machine.specs.declared.Call.the-variants.{Offer, Order, Read}
+use Rattle.steps.specs.declared.Call.the-variants.{Offer, Order, Read}
 use Rattle.machine.specs.Boards.{boardFlight, boardDown}
 use Rattle.machine.specs.Runs.{running}
 use Rattle.drain.specs.declared.Ending.the-variants.{Quiet, Spent, Refused}

@@ -15,6 +15,7 @@ use machine::Board;
 use printer::Printed;
 use runfile::run::refusal_of;
 use runfile::run::run_events;
+use shown::figures::books_all_sound;
 
 // The answer in place of a count of bytes: no slice has so many.
 pub const NO_COUNT: u64 = 18_446_744_073_709_551_615;
@@ -47,7 +48,7 @@ fn drain_from(board: Board, input: &[u8], limit: u64, out: &mut [i64]) -> u64
     let drained = drain_sound(last, limit);
     let count = drained.count;
     let after = drained.board;
-    let answer = after.books_all_sound(out);
+    let answer = books_all_sound(after, out);
     let refusal = refusal_of(answer);
     if refusal != 0 {
         return NO_COUNT;
@@ -64,7 +65,7 @@ pub extern "C" fn run_drain(input: &[u8], limit: u64, out: &mut [i64]) -> u64
 {
     if well_formed(input) {
         let setup = setup_of(input);
-        let start = Board::start(setup.n, setup.f, setup.matrix);
+        let start = opening::start(setup.n, setup.f, setup.matrix);
         let answer = start.answer;
         let refusal = refusal_of(answer);
         if refusal != 0 {

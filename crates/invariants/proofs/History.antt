@@ -37,8 +37,8 @@ use Rattle.flight.specs.Flights.{takingOut, goodTo, carriedBy}
 use Rattle.machine.specs.declared.Board.{Board}
 use Rattle.steps.specs.declared.Cut.{Cut}
 use Rattle.steps.specs.declared.Cut.the-variants.{Whole, After}
-use Rattle.machine.specs.declared.Call.{Call}
-use Rattle.machine.specs.declared.Call.the-variants.{Offer, Receive, Order, Read, Crash}
+use Rattle.steps.specs.declared.Call.{Call}
+use Rattle.steps.specs.declared.Call.the-variants.{Offer, Receive, Order, Read, Crash}
 use Rattle.machine.specs.Boards.{siteAt, tallyAt, isDown, boardTable, boardFlight}
 use Rattle.steps.specs.Causes.{isCut}
 use Rattle.machine.specs.Calls.{carriedOut, receiptOf}

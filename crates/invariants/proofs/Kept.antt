@@ -39,8 +39,8 @@ use Rattle.flight.specs.CellLaws.{cell-in}
 use Rattle.machine.specs.declared.Board.{Board}
 use Rattle.steps.specs.declared.Cut.{Cut}
 use Rattle.steps.specs.declared.Cut.the-variants.{Whole, After}
-use Rattle.machine.specs.declared.Call.{Call}
-use Rattle.machine.specs.declared.Call.the-variants.{Offer, Receive, Order, Read, Crash}
+use Rattle.steps.specs.declared.Call.{Call}
+use Rattle.steps.specs.declared.Call.the-variants.{Offer, Receive, Order, Read, Crash}
 use Rattle.machine.specs.Boards.{siteAt, tallyAt, entryAt, boardTable, boardFlight}
 use Rattle.machine.specs.Soundness.{isSound, setupOk, sitesOk, crashesOk}
 use Rattle.machine.specs.Calls.{carriedOut, pooling, entering}

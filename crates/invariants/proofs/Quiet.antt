@@ -26,8 +26,8 @@ use Rattle.flight.specs.CellLaws.{cell-in, cell-range, range-cell}
 use Rattle.machine.specs.declared.Board.{Board}
 use Rattle.steps.specs.declared.Cut.{Cut}
 use Rattle.steps.specs.declared.Cut.the-variants.{Whole, After}
-use Rattle.machine.specs.declared.Call.{Call}
-use Rattle.machine.specs.declared.Call.the-variants.{Offer, Receive, Order, Read, Crash}
+use Rattle.steps.specs.declared.Call.{Call}
+use Rattle.steps.specs.declared.Call.the-variants.{Offer, Receive, Order, Read, Crash}
 use Rattle.machine.specs.declared.Outcome.{Outcome}
 use Rattle.machine.specs.Boards.{siteAt, isDown}
 use Rattle.machine.specs.Soundness.{isSound}

@@ -39,8 +39,8 @@ use Rattle.flight.specs.CarriedLaws.{set-shape-in}
 use Rattle.flight.specs.FlightLaws.{taking-shape, empty-flight-shape, empty-in-flight}
 use Rattle.machine.specs.declared.Board.{Board}
 use Rattle.steps.specs.declared.Cut.{Cut}
-use Rattle.machine.specs.declared.Call.{Call}
-use Rattle.machine.specs.declared.Call.the-variants.{Offer, Receive, Order, Read, Crash}
+use Rattle.steps.specs.declared.Call.{Call}
+use Rattle.steps.specs.declared.Call.the-variants.{Offer, Receive, Order, Read, Crash}
 use Rattle.machine.specs.Boards.{siteAt, tallyAt, entryAt, loggedAt, boardTable, boardFlight}
 use Rattle.machine.specs.Calls.{carriedOut, receiptOf}
 use Rattle.machine.specs.Runs.{taking, accepted, running}

@@ -29,7 +29,7 @@ use Rattle.flight.specs.Flights.{emptyFlight}
 use Rattle.flight.specs.FlightLaws.{empty-flight-shape, empty-in-flight, empty-good, empty-carried}
 use Rattle.flight.specs.ArrayLaws.{zero-at}
 use Rattle.machine.specs.declared.Board.{Board}
-use Rattle.machine.specs.declared.Call.{Call}
+use Rattle.steps.specs.declared.Call.{Call}
 use Rattle.machine.specs.declared.Outcome.{Outcome}
 use Rattle.machine.specs.Boards.{freshBoard, siteAt, tallyAt, entryAt}
 use Rattle.sets.specs.Below.{allOf}

@@ -11,4 +11,3 @@ pub mod Passed
 pub mod Facts
 pub mod Outcomes
 pub mod Received
-pub mod Showing

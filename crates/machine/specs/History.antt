@@ -8,8 +8,8 @@ use lib.ListN.{getD}
 use Rattle.posting.specs.declared.Posting.{Posting}
 use Rattle.machine.specs.declared.Board.{Board}
 use Rattle.steps.specs.declared.Cut.the-variants.{Whole, After}
-use Rattle.machine.specs.declared.Call.{Call}
-use Rattle.machine.specs.declared.Call.the-variants.{Offer, Receive, Order, Read, Crash}
+use Rattle.steps.specs.declared.Call.{Call}
+use Rattle.steps.specs.declared.Call.the-variants.{Offer, Receive, Order, Read, Crash}
 use Rattle.machine.specs.Runs.{taking, accepted}
 
 -- the accepted calls, in order

@@ -9,8 +9,8 @@ use Rattle.sets.specs.Below.{allBelow}
 use Rattle.sets.specs.Sets.{isEmptySet}
 use Rattle.flight.specs.Flights.{nothingComes}
 use Rattle.machine.specs.declared.Board.{Board}
-use Rattle.machine.specs.declared.Call.{Call}
-use Rattle.machine.specs.declared.Call.the-variants.{Offer, Receive, Order, Read, Crash}
+use Rattle.steps.specs.declared.Call.{Call}
+use Rattle.steps.specs.declared.Call.the-variants.{Offer, Receive, Order, Read, Crash}
 use Rattle.machine.specs.declared.Answer.{Answer}
 use Rattle.machine.specs.declared.Answer.the-variants.{Done, Offered, Refused}
 use Rattle.machine.specs.declared.Outcome.{Outcome}

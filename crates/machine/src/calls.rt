@@ -1,5 +1,5 @@
 // The calls of a board that is known to be sound: offer, receive, order, read and crash, whole or cut, each handing board and answer back.
-// Rests on refusals and steps, on flight, site, posting and sets.
+// Rests on steps, on flight, site, masks, posting and sets.
 ghost use Prim.Native.Nat.{_<_, _^_};
 ghost use mathlib.Core.Path.{_≡_};
 ghost use mathlib.Core.Bool.{true};

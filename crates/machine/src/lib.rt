@@ -9,14 +9,10 @@ use site::SITES;
 use site::Setup;
 use site::Site;
 use site::Tally;
-use steps::Cut;
 
 pub mod calls;
-pub mod figures;
-pub mod quiet;
 pub mod service;
 pub mod sound;
-pub mod start;
 
 pub struct Board {
     pub setup: Setup,
@@ -33,35 +29,6 @@ pub struct Board {
     pub entries: [Set; POSTINGS],
     // the postings of the log's entries, in order
     pub log: Record,
-}
-
-// A call: one of document 01's events.
-pub enum Call {
-    Offer {
-        site: usize,
-        kind: u8,
-        a: u8,
-        b: u8,
-        amount: u32,
-        cut: Cut,
-    },
-    Receive {
-        form: usize,
-        posting: usize,
-        from: usize,
-        to: usize,
-        cut: Cut,
-    },
-    Order {
-        posting: usize,
-    },
-    Read {
-        site: usize,
-        cut: Cut,
-    },
-    Crash {
-        site: usize,
-    },
 }
 
 // What a call answers: done; an offer's number; or document 01's number of the refusal.

@@ -1,7 +1,6 @@
 // The service: a board takes any call with any arguments. An unsound board is refused first (6); a sound one takes the call.
 // Rests on sound and calls.
 ghost use mathlib.Core.Path.{_≡_};
-ghost use Rattle.machine.specs.Figures.{showing, showingAll};
 ghost use Rattle.machine.specs.Calls.{offering, receiving, ordering, reading, crashing};
 use crate::Answer;
 use crate::Board;
@@ -80,27 +79,5 @@ impl Board {
             board: self,
             answer: Answer::Refused(6),
         }
-    }
-
-    // The books of a site.
-    pub fn books(self, site: usize, out: &mut [i64]) -> Answer
-        ensures { λ r. ⌜ r ≡ showing self site (now (out .entry)) .answer ⌝ }
-        ensures { λ _. ⌜ now (out .exit) ≡ showing self site (now (out .entry)) .slice ⌝ }
-    {
-        if self.is_sound() {
-            return self.books_sound(site, out);
-        }
-        Answer::Refused(6)
-    }
-
-    // The books of all sites.
-    pub fn books_all(self, out: &mut [i64]) -> Answer
-        ensures { λ r. ⌜ r ≡ showingAll self (now (out .entry)) .answer ⌝ }
-        ensures { λ _. ⌜ now (out .exit) ≡ showingAll self (now (out .entry)) .slice ⌝ }
-    {
-        if self.is_sound() {
-            return self.books_all_sound(out);
-        }
-        Answer::Refused(6)
     }
 }

@@ -17,8 +17,8 @@ use Rattle.posting.specs.Records.{numbersOf}
 use Rattle.books.proofs.Lists.{length-tabulate}
 use Rattle.steps.specs.Causes.{Cause}
 use Rattle.machine.specs.declared.Board.{Board}
-use Rattle.machine.specs.declared.Call.{Call}
-use Rattle.machine.specs.declared.Call.the-variants.{Offer, Receive, Order, Read, Crash}
+use Rattle.steps.specs.declared.Call.{Call}
+use Rattle.steps.specs.declared.Call.the-variants.{Offer, Receive, Order, Read, Crash}
 use Rattle.machine.specs.declared.Outcome.{Outcome}
 use Rattle.machine.specs.Boards.{blankBoard}
 use Rattle.machine.specs.Calls.{refusalOf, judged, starting, offering, receiving, ordering, reading, crashing}

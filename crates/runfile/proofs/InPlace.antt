@@ -18,8 +18,8 @@ use Rattle.site.specs.ByMask.{stepOf}
 use Rattle.flight.specs.Flights.{cells, inFlight, goodTo, carriedBy, sendingTo, takingFrom, goodSent, goodTaken, setSent, setTaken, takingOut}
 use Rattle.machine.specs.declared.Board.{Board}
 use Rattle.steps.specs.declared.Cut.{Cut}
-use Rattle.machine.specs.declared.Call.{Call}
-use Rattle.machine.specs.declared.Call.the-variants.{Receive}
+use Rattle.steps.specs.declared.Call.{Call}
+use Rattle.steps.specs.declared.Call.the-variants.{Receive}
 use Rattle.machine.specs.Boards.{siteAt, tallyAt, entryAt, boardFlight, boardDown}
 use Rattle.machine.specs.Soundness.{isSound}
 use Rattle.machine.specs.Calls.{carriedOut, receiving}

@@ -28,8 +28,8 @@ use Rattle.flight.specs.Flights.{cells, flightOf, sendingTo, sendingMask}
 use Rattle.machine.specs.declared.Board.{Board}
 use Rattle.steps.specs.declared.Cut.{Cut}
 use Rattle.steps.specs.declared.Cut.the-variants.{Whole, After}
-use Rattle.machine.specs.declared.Call.{Call}
-use Rattle.machine.specs.declared.Call.the-variants.{Offer, Order, Read, Crash}
+use Rattle.steps.specs.declared.Call.{Call}
+use Rattle.steps.specs.declared.Call.the-variants.{Offer, Order, Read, Crash}
 use Rattle.machine.specs.declared.Answer.the-variants.{Offered}
 use Rattle.machine.specs.Boards.{siteAt, tallyAt, entryAt, loggedAt, boardTable, boardDown, boardPool}
 use Rattle.posting.specs.Conflicts.{tableWith}

@@ -13,7 +13,7 @@ use Rattle.sets.specs.Truth.{and-left, and-right}
 use Rattle.posting.specs.Kinds.{symmetric, hasFixedPairs}
 use Rattle.site.specs.declared.Setup.{Setup}
 use Rattle.machine.specs.declared.Board.{Board}
-use Rattle.machine.specs.declared.Call.{Call}
+use Rattle.steps.specs.declared.Call.{Call}
 use Rattle.machine.specs.declared.Outcome.{Outcome}
 use Rattle.machine.specs.declared.Answer.the-variants.{Done}
 use Rattle.machine.specs.Boards.{freshBoard, blankBoard}

@@ -13,7 +13,7 @@ use Rattle.books.specs.Books as of-books
 use Rattle.books.proofs.Lists.{getD-tabulate}
 use Rattle.site.specs.Sites.{sites}
 use Rattle.machine.specs.declared.Board.{Board}
-use Rattle.machine.specs.declared.Call.{Call}
+use Rattle.steps.specs.declared.Call.{Call}
 use Rattle.machine.specs.declared.Outcome.{Outcome}
 use Rattle.machine.specs.Boards.{siteAt}
 use Rattle.machine.specs.Calls.{refusalOf}

@@ -9,7 +9,7 @@ use Rattle.books.specs.Books.{tabulate}
 use Rattle.site.specs.Sites.{sites}
 use Rattle.site.specs.declared.Setup.{Setup}
 use Rattle.machine.specs.declared.Board.{Board}
-use Rattle.machine.specs.declared.Call.{Call}
+use Rattle.steps.specs.declared.Call.{Call}
 use Rattle.machine.specs.declared.Outcome.{Outcome}
 use Rattle.machine.specs.Boards.{siteAt}
 use Rattle.machine.specs.Soundness.{isSound}

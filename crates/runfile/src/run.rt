@@ -16,14 +16,15 @@ use decoder::file::setup_of;
 use decoder::file::well_formed;
 use machine::Answer;
 use machine::Board;
-use machine::Call;
 use masks::every_site;
 use masks::with_site;
 use posting::Posting;
 use printer::Printed;
 use printer::print::print_refused;
 use printer::print::print_run;
+use shown::quiet::is_quiet;
 use site::Sends;
+use steps::Call;
 use steps::cuts::down_after;
 use steps::cuts::entry_to;
 use steps::cuts::settle_to;
@@ -277,7 +278,7 @@ fn run_from(board: Board, input: &[u8], out: &mut [u8]) -> Printed
 {
     let mut numbers = [0; EVENTS];
     let last = run_events(board, input, &mut numbers);
-    let quiet = last.is_quiet();
+    let quiet = is_quiet(last);
     let ended = ended_on(last, quiet);
     let count = event_count(input);
     print_run(&numbers[..count], ended, out)
@@ -290,7 +291,7 @@ pub fn run_file(input: &[u8], out: &mut [u8]) -> Printed
 {
     if well_formed(input) {
         let setup = setup_of(input);
-        let start = Board::start(setup.n, setup.f, setup.matrix);
+        let start = opening::start(setup.n, setup.f, setup.matrix);
         let answer = start.answer;
         let refusal = refusal_of(answer);
         if refusal != 0 {

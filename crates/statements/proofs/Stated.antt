@@ -10,12 +10,12 @@ use lib.IntN.{ℤ}
 use lib.ListN.{length, take, drop}
 use borrow.Author.Tests.{eq-eqb, ne-eqb, le-ltb}
 use Rattle.machine.specs.declared.Board.{Board}
-use Rattle.machine.specs.declared.Call.{Call}
+use Rattle.steps.specs.declared.Call.{Call}
 use Rattle.machine.specs.declared.Outcome.{Outcome}
 use Rattle.machine.specs.Soundness.{isSound}
 use Rattle.machine.specs.Calls.{refusalOf}
 use Rattle.machine.specs.Runs.{taking, running}
-use Rattle.machine.proofs.Showing.{length-all}
+use Rattle.shown.proofs.Showing.{length-all}
 use Rattle.machine.specs.Figures.{figuresOfAll, shown, showingAll}
 use Rattle.drain.specs.declared.Drained.{Drained}
 use Rattle.drain.specs.Drain.{Next, none, event, nextEvent, draining, drained}

@@ -5,7 +5,7 @@ use mathlib.Core.Bool.{cond}
 use mathlib.Core.List.{List}
 use lib.Dec.{eqb}
 use Rattle.machine.specs.declared.Board.{Board}
-use Rattle.machine.specs.declared.Call.{Call}
+use Rattle.steps.specs.declared.Call.{Call}
 use Rattle.machine.specs.declared.Outcome.{Outcome}
 use Rattle.machine.specs.Calls.{refusalOf, starting}
 use Rattle.machine.specs.Runs.{running}

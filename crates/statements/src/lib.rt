@@ -19,6 +19,7 @@ use printer::print::print_refused;
 use printer::print::wide;
 use runfile::run::refusal_of;
 use runfile::run::run_events;
+use shown::figures::books_all_sound;
 
 // How many numbers the books of a site have, and those of all sites that there can be.
 const FIGURES: usize = 64;
@@ -38,7 +39,7 @@ fn print_board(board: Board, out: &mut [u8]) -> Printed
     let n = setup.n;
     let down = board.down;
     let mut figures = [0; ALL_FIGURES];
-    board.books_all_sound(&mut figures);
+    books_all_sound(board, &mut figures);
     let count = FIGURES * wide(n);
     print_statement(&figures[..count], n, down, out)
 }
@@ -63,7 +64,7 @@ pub fn statement(input: &[u8], out: &mut [u8]) -> Printed
 {
     if well_formed(input) {
         let setup = setup_of(input);
-        let start = Board::start(setup.n, setup.f, setup.matrix);
+        let start = opening::start(setup.n, setup.f, setup.matrix);
         let answer = start.answer;
         let refusal = refusal_of(answer);
         if refusal != 0 {

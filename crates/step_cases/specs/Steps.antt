@@ -4,8 +4,8 @@ use mathlib.Core.Bool.{true, false}
 use mathlib.Core.List.{List, [], _∷_, _++_}
 use Rattle.site.specs.Sends.{FIRST, SECOND, THIRD, DELIVER}
 use Rattle.steps.specs.declared.Cut.the-variants.{After}
-use Rattle.machine.specs.declared.Call.{Call}
-use Rattle.machine.specs.declared.Call.the-variants.{Receive, Read}
+use Rattle.steps.specs.declared.Call.{Call}
+use Rattle.steps.specs.declared.Call.the-variants.{Receive, Read}
 use Rattle.cases.specs.Trials.{Entry, View, look, left, Case, _gives_}
 use Rattle.cases.specs.Boards.{began, arrives, offers, twoOffers, toPool, toDeliver, rateDelivers, busy}
 

@@ -25,6 +25,35 @@ pub enum Cut {
     After(usize),
 }
 
+// A call: one of document 01's events.
+pub enum Call {
+    Offer {
+        site: usize,
+        kind: u8,
+        a: u8,
+        b: u8,
+        amount: u32,
+        cut: Cut,
+    },
+    Receive {
+        form: usize,
+        posting: usize,
+        from: usize,
+        to: usize,
+        cut: Cut,
+    },
+    Order {
+        posting: usize,
+    },
+    Read {
+        site: usize,
+        cut: Cut,
+    },
+    Crash {
+        site: usize,
+    },
+}
+
 // The step of a receipt, by its form.
 pub fn receipt(
     setup: Setup,

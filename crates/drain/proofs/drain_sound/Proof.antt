@@ -8,7 +8,7 @@ use Rattle.sets.specs.Truth.{never}
 use Rattle.sets.specs.Sets.{membersOf}
 use Rattle.flight.specs.Flights.{cells}
 use Rattle.steps.specs.declared.Cut.the-variants.{Whole}
-use Rattle.machine.specs.declared.Call.the-variants.{Receive, Order, Read}
+use Rattle.steps.specs.declared.Call.the-variants.{Receive, Order, Read}
 use Rattle.machine.proofs.Facts.{Placed}
 use Rattle.machine.proofs.Typed.{is-board}
 use Rattle.machine.proofs.SoundTest.{sound-facts}

@@ -6,7 +6,7 @@ use mathlib.Core.List.{List}
 use lib.ListN.{length, drop-of-length-le}
 use borrow.Author.Needs.{needs}
 use native.Mathlib.Omega.{arith}
-use Rattle.machine.specs.declared.Call.the-variants.{Crash}
+use Rattle.steps.specs.declared.Call.the-variants.{Crash}
 use Rattle.books.proofs.Blocks.{part-all}
 use Rattle.decoder.specs.RunFile.{eventAt, callOf, callAt}
 use Rattle.decoder.proofs.file.call_at.Statement.{statement}
