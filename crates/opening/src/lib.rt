@@ -1,5 +1,5 @@
 // Start: the board of n sites, f crashes and a matrix; and the blank board.
-// Rests on flight, site, posting and sets.
+// Rests on machine, flight, site, posting and sets.
 ghost use mathlib.Core.Path.{_≡_};
 ghost use Rattle.site.specs.Sites.{blankSite, blankTally};
 ghost use Rattle.posting.specs.Conflicts.{emptyTable};

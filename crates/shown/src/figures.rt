@@ -1,5 +1,5 @@
 // The books of a board in a lent slice: of one site, and of all sites, up or down.
-// Rests on refusals, on books, posting and site.
+// Rests on machine, steps, books, posting and site.
 ghost use mathlib.Core.Path.{_≡_};
 ghost use mathlib.Core.Bool.{true};
 ghost use mathlib.Core.List.{map};

@@ -1,5 +1,5 @@
 // Whether a board is quiet: nothing in flight is for a site that is up, the pool is empty, and every site that is up has read the whole log.
-// Rests on flight, site and sets. It is answered for every board value: a place past the array is a site that has read nothing.
+// Rests on machine, flight, site, masks and sets. It is answered for every board value: a place past the array is a site that has read nothing.
 ghost use mathlib.Core.Path.{_≡_};
 ghost use Rattle.machine.specs.Runs.{isQuiet};
 ghost use Rattle.machine.specs.QuietParts.{upByte, allRead};
