@@ -5,6 +5,7 @@ use mathlib.Core.Path.{_≡_, refl, sym, ap, _∙_}
 use mathlib.Core.Logic.{_⊎_, inl, inr}
 use mathlib.Core.Bool.{Bool, true, false, cond, not, _&&_, _||_}
 use mathlib.Core.List.{List, [], _∷_}
+use native.Mathlib.Nat.{mod-eq-of-lt}
 use native.Mathlib.Omega.{arith}
 use native.Mathlib.Decide.{ℕ-discrete, decLt}
 use lib.Dec.{eqb, ltb, leb}
@@ -61,11 +62,11 @@ nothing-comes (mask ∷ l) up h =
 -- the sites that are up, bit by bit
 pub up-bit : (b : Board) → b .down < 2 ^ b .setup .n → (p : ℕ) → p < b .setup .n → hasBit (upMask b) p ≡ not (isDown b p)
 unfolding upMask
-up-bit b lt p lp = has-bit-not (b .setup .n) (b .down) p lt lp
+up-bit b lt p lp = rw (mod-eq-of-lt lt) (has-bit-not (b .setup .n) (b .down) p lt lp)
 
 up-below : (b : Board) → upMask b < 2 ^ b .setup .n
 unfolding upMask
-up-below b = ones-sub-lt (b .setup .n) (b .down)
+up-below b = ones-sub-lt (b .setup .n) (b .down % 2 ^ b .setup .n)
 
 not-below-zero : (k : ℕ) → ltb k 0 ≡ false
 not-below-zero k = le-ltb k 0 (omega arith)

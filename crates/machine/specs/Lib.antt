@@ -4,6 +4,7 @@ pub mod Calls
 pub mod Runs
 pub mod History
 pub mod Figures
+pub mod View
 pub mod ByMask
 pub mod SoundParts
 pub mod QuietParts

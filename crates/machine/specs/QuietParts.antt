@@ -3,38 +3,50 @@
 -- Rests on Runs. Assumes nothing.
 use Prim.Native.Nat.{ℕ, suc, _+_, _-_, _%_, _^_, _<_, _≤_}
 use mathlib.Core.Path.{_≡_, refl, sym, ap, ap₂, _∙_}
-use mathlib.Core.Bool.{Bool, true, false, _&&_, _||_}
+use mathlib.Core.Bool.{Bool, true, false, cond, _&&_, _||_}
 use mathlib.Core.List.{List, [], _∷_}
 use native.Mathlib.Omega.{arith}
-use lib.Dec.{eqb, leb}
-use lib.ListN.{length, getD, take, List·getD-eq-default}
+use lib.Dec.{eqb, ltb, leb}
+use lib.ListN.{length, getD, take}
 use lib.Bits.{bitAnd, and-mod, and-le-l}
-use lib.Pow.{pow-lt, not-mod}
+use lib.Pow.{pow-lt, pow-mono, not-mod}
+use native.Mathlib.Nat.{lt-of-lt-of-le, mod-eq-of-lt}
 use borrow.Author.Tests.{le-leb, lt-leb}
 use Rattle.sets.specs.Masks.{hasBit}
 use Rattle.sets.specs.Truth.{or-right}
 use Rattle.sets.specs.Below.{allBelow}
-use Rattle.sets.specs.BelowLaws.{all-from}
+use Rattle.sets.specs.BelowLaws.{all-from, all-ext}
+use Rattle.sets.specs.declared.Set.{Set}
 use Rattle.sets.specs.Sets.{isEmptySet}
-use Rattle.site.specs.declared.Site.{Site}
-use Rattle.site.specs.Sites.{sites, noSite}
+use Rattle.site.specs.Sites.{sites}
+use Rattle.arrays.specs.Layout.{placeAt, loggedAt}
 use Rattle.flight.specs.Flights.{cells, nothingComes, Bytes}
 use Rattle.flight.specs.SearchLaws.{all-cells}
 use Rattle.machine.specs.declared.Board.{Board}
+use Rattle.machine.specs.Boards.{siteAt, isDown}
 use Rattle.machine.specs.Runs.{upMask, isQuiet}
 
 -- ---- the parts, where there are n sites, some are down, and so many entries were logged
 
 -- the sites that are up, the first eight of them
 unfoldable pub upByte : ℕ → ℕ → ℕ
-upByte n down = ((2 ^ n - 1) - down) % 2 ^ 8
+upByte n down = ((2 ^ n - 1) - down % 2 ^ n) % 2 ^ 8
+
+-- the log place of site p, of counts as the arrays have them; where there is no site it is 0
+abbrev pub placeIn : List ℕ → ℕ → ℕ
+placeIn counts p = cond (ltb p sites) (getD counts (placeAt p) 0) 0
 
 -- site p is down, or has read the whole log
-abbrev pub hasRead : ℕ → ℕ → List Site → ℕ → Bool
-hasRead down logged l p = hasBit down p || leb logged (getD l p noSite .place)
+abbrev pub hasRead : ℕ → List ℕ → ℕ → Bool
+hasRead down counts p = hasBit down p || leb (getD counts loggedAt 0) (placeIn counts p)
 
-unfoldable pub allRead : ℕ → ℕ → ℕ → List Site → Bool
-allRead n down logged l = allBelow (hasRead down logged l) n
+unfoldable pub allRead : ℕ → ℕ → List ℕ → Bool
+allRead n down counts = allBelow (hasRead down counts) n
+
+-- the counts are those of a board: its sites' places, and how many entries its log has
+pub record PlacesOf (b : Board) (counts : List ℕ) : Type 0 where
+  pub places : (p : ℕ) → siteAt b p .place ≡ placeIn counts p
+  pub logged : b .log .count ≡ getD counts loggedAt 0
 
 -- ---- the sites that are up, as a byte
 
@@ -43,10 +55,12 @@ pub up-many : (n down : ℕ) → 8 ≤ n → down < 2 ^ 8 → upByte n down ≡ 
 unfolding upByte
 up-many n down h small =
     let e : n ≡ (n - 8) + 8 = omega arith in
-    ap (λ (k : ℕ). ((2 ^ k - 1) - down) % 2 ^ 8) e ∙ not-mod (n - 8) 8 small
+    let below : down < 2 ^ n = lt-of-lt-of-le small (pow-mono h) in
+    ap (λ (d : ℕ). ((2 ^ n - 1) - d) % 2 ^ 8) (mod-eq-of-lt below)
+    ∙ ap (λ (k : ℕ). ((2 ^ k - 1) - down) % 2 ^ 8) e ∙ not-mod (n - 8) 8 small
 
 -- below 8 it is the mask itself
-pub up-few : (n down : ℕ) → n < 8 → upByte n down ≡ (2 ^ n - 1) - down
+pub up-few : (n down : ℕ) → n < 8 → upByte n down ≡ (2 ^ n - 1) - down % 2 ^ n
 unfolding upByte
 up-few n down h = omega (arith, pow-lt h)
 
@@ -70,29 +84,36 @@ comes-low (mask ∷ l) up small =
 
 -- ---- quiet, by its parts
 
-pub quiet-parts :
-    (b : Board) → Bytes cells (b .flight .masks)
-    → isQuiet b
-    ≡ (nothingComes (take cells (b .flight .masks)) (upByte (b .setup .n) (b .down))
-    && (isEmptySet (b .pool) && allRead (b .setup .n) (b .down) (b .log .count) (b .sites)))
-unfolding isQuiet upMask upByte allRead
-quiet-parts b bytes =
-    let masks = b .flight .masks in
-    let small : (i : ℕ) → i < length masks → getD masks i 0 < 2 ^ 8 = λ i h. bytes .small i (omega (arith, bytes .long)) in
-    let e = comes-low masks (upMask b) small in
-    rw (all-cells masks (bytes .long), e)
+abbrev pub quietBy : List ℕ → ℕ → ℕ → Set → List ℕ → Bool
+quietBy masks n down pool counts = nothingComes (take cells masks) (upByte n down) && (isEmptySet pool && allRead n down counts)
+
+module _ (b : Board) (counts : List ℕ) (at : PlacesOf b counts) where
+  read-parts : allBelow (λ p. isDown b p || leb (b .log .count) (siteAt b p .place)) (b .setup .n) ≡ allRead (b .setup .n) (b .down) counts
+  unfolding allRead
+  read-parts =
+      all-ext (λ p. isDown b p || leb (b .log .count) (siteAt b p .place)) (hasRead (b .down) counts) (b .setup .n)
+      (λ p h. ap₂ (λ (l q : ℕ). isDown b p || leb l q) (at .logged) (at .places p))
+
+  pub quiet-parts : Bytes cells (b .flight .masks) → isQuiet b ≡ quietBy (b .flight .masks) (b .setup .n) (b .down) (b .pool) counts
+  unfolding isQuiet upMask upByte
+  quiet-parts bytes =
+      let masks = b .flight .masks in
+      let small : (i : ℕ) → i < length masks → getD masks i 0 < 2 ^ 8 = λ i h. bytes .small i (omega (arith, bytes .long)) in
+      rw (all-cells masks (bytes .long), comes-low masks (upMask b) small, read-parts)
+
+  -- of few sites, whatever the masks are
+  pub quiet-few : b .setup .n ≤ sites → length (b .flight .masks) ≡ cells → isQuiet b ≡ quietBy (b .flight .masks) (b .setup .n) (b .down) (b .pool) counts
+  unfolding isQuiet
+  quiet-few few long = rw (all-cells (b .flight .masks) long, up-byte b few, read-parts)
 
 -- ---- what was read
 
 -- nothing was logged
-pub read-none : (n down logged : ℕ) (l : List Site) → logged ≡ 0 → allRead n down logged l ≡ true
+pub read-none : (n down : ℕ) (counts : List ℕ) → getD counts loggedAt 0 ≡ 0 → allRead n down counts ≡ true
 unfolding allRead
-read-none n down logged l e = all-from (hasRead down logged l) n (λ p h. or-right (hasBit down p) _ (le-leb logged (getD l p noSite .place) (omega arith)))
+read-none n down counts e =
+    all-from (hasRead down counts) n (λ p h. or-right (hasBit down p) _ (le-leb (getD counts loggedAt 0) (placeIn counts p) (omega arith)))
 
 -- a site that is up and has not read it all
-pub behind : (down logged : ℕ) (l : List Site) (p : ℕ) → hasBit down p ≡ false → getD l p noSite .place < logged → hasRead down logged l p ≡ false
-behind down logged l p f h = rw (f, lt-leb logged (getD l p noSite .place) h)
-
--- a place past the array
-pub past : (down logged : ℕ) (l : List Site) (p : ℕ) → hasBit down p ≡ false → length l ≤ p → 0 < logged → hasRead down logged l p ≡ false
-past down logged l p f h some = behind down logged l p f (rw (List·getD-eq-default l noSite h) some)
+pub behind : (down : ℕ) (counts : List ℕ) (p : ℕ) → hasBit down p ≡ false → placeIn counts p < getD counts loggedAt 0 → hasRead down counts p ≡ false
+behind down counts p f h = rw (f, lt-leb (getD counts loggedAt 0) (placeIn counts p) h)

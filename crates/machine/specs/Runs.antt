@@ -1,6 +1,6 @@
 -- A call as a value, the run of any list of calls from a board, quiet, and when none is left to do.
 -- Rests on Calls. The numbers of a call are unbounded; a refused call's board is passed on, and nothing is filtered or stops.
-use Prim.Native.Nat.{ℕ, _-_, _^_}
+use Prim.Native.Nat.{ℕ, _-_, _%_, _^_}
 use mathlib.Core.Path.{_≡_}
 use mathlib.Core.Bool.{Bool, true, false, _&&_, _||_}
 use mathlib.Core.List.{List, [], _∷_}
@@ -43,9 +43,9 @@ answers b (c ∷ l) = taking b c .answer ∷ answers (taking b c .board) l
 
 -- ---- quiet
 
--- the sites that are up, as a mask
+-- the sites that are up, as a mask: those below n that are not down
 unfoldable pub upMask : Board → ℕ
-upMask b = (2 ^ b .setup .n - 1) - b .down
+upMask b = (2 ^ b .setup .n - 1) - b .down % 2 ^ b .setup .n
 
 -- A board is quiet if nothing in flight is for a site that is up, the pool is empty, and every site that is up has read the whole log.
 unfoldable pub isQuiet : Board → Bool

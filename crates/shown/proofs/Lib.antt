@@ -1,3 +1,4 @@
--- What the proofs of the books share.
+-- What the proofs of quiet and of the books share.
 -- Rests on machine.
+pub mod Places
 pub mod Showing

@@ -130,7 +130,7 @@ impl Setup {
     }
 
     // Whether a site is already heard, or n - f are, or the posting is done with.
-    fn late(self, heard: u8, from: u8, done: bool) -> bool
+    pub fn late(self, heard: u8, from: u8, done: bool) -> bool
         ensures { λ r. ⌜ r ≡ late self heard from done ⌝ }
     {
         if has_site(heard, from) {

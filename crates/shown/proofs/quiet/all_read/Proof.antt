@@ -4,103 +4,124 @@ use Prim.Native.Nat.{_-_, _<_, _≤_}
 use mathlib.Core.Path.{_≡_, sym, _∙_}
 use mathlib.Core.Bool.{true}
 use native.Mathlib.Omega.{arith}
-use lib.ListN.{length, getD}
-use borrow.Author.Needs.{needs}
-use borrow.Author.Tests.{le-leb}
+use lib.ListN.{getD}
+use borrow.Author.Tests.{le-leb, lt-ltb, le-ltb}
 use Rattle.sets.specs.Masks.{hasBit}
 use Rattle.sets.specs.Truth.{or-left, or-right}
 use Rattle.sets.specs.Below.{allBelow}
 use Rattle.sets.specs.BelowLaws.{all-fails, all-none, all-more, all-end}
-use Rattle.site.specs.Sites.{sites, noSite}
-use Rattle.machine.specs.QuietParts.{hasRead, allRead, read-none, behind, past}
+use Rattle.site.specs.Sites.{sites}
+use Rattle.arrays.specs.Layout.{loggedAt}
+use Rattle.machine.specs.QuietParts.{placeIn, hasRead, allRead, read-none, behind}
+use borrow.Author.Needs.{needs}
 use Rattle.shown.proofs.quiet.all_read.Statement.{statement}
 use Rattle.shown.proofs.quiet.all_read.Tie as tie
+use Rattle.shown.proofs.quiet.all_read.Reads as reads
+use Rattle.shown.proofs.quiet.all_read.Lts as lts
+use Rattle.masks.proofs.has_site.Reads as has-site-reads
 
 abbrev Inv-loop : tie.InvT-loop
-Inv-loop n down logged sites p₀ p = (p ≤ n) × (allBelow (hasRead down logged sites) p ≡ true)
+Inv-loop n down counts logged p₀ p = (p ≤ n) × (allBelow (hasRead down counts) p ≡ true)
 
 abbrev μ-loop : tie.MeasureT-loop
-μ-loop n down logged sites p₀ p = n - p
+μ-loop n down counts logged p₀ p = n - p
 
--- what holds of every array of sites
-long : (c : tie.Start Inv-loop μ-loop) → length (c .args .t4) ≡ sites
-long c = search needs
+-- src/quiet.rt:44:18
+element-copy-out-logged : tie.Need-element-copy-out-logged Inv-loop μ-loop
+element-copy-out-logged c = search needs
 
+-- src/quiet.rt:46:9
 returns : tie.Need-returns Inv-loop μ-loop
-returns c = let args = c .before .args in sym (read-none (args .n) (args .down) (args .logged) (args .t4) (c .if1 .taken))
+returns c = let args = c .before .before .args in sym (read-none (args .n) (args .down) (args .counts .now) (c .if1 .taken))
 
+-- src/quiet.rt:48:5
 loop-holds : tie.Need-loop-holds Inv-loop μ-loop
-loop-holds c = let args = c .before .args in (search needs, all-none (hasRead (args .down) (args .logged) (args .t4)))
+loop-holds c = let args = c .before .before .args in (search needs, all-none (hasRead (args .down) (args .counts .now)))
 
+-- src/quiet.rt:49:12
 has-site-requires : tie.Need-has-site-requires Inv-loop μ-loop
 has-site-requires c κs = search needs
 
+-- src/quiet.rt:50:13
 add-p : tie.Need-add-p Inv-loop μ-loop
 add-p c = search needs
 
+-- src/quiet.rt:48:5
 loop-less : tie.Need-loop-less Inv-loop μ-loop
 loop-less c = search needs
 
+-- src/quiet.rt:48:5
 loop-again : tie.Need-loop-again Inv-loop μ-loop
 loop-again c =
     let at = c .before .before .before .loop in
-    let args = c .before .before .before .before .before .args in (
+    let args = c .before .before .before .before .before .before .args in (
       search needs,
-      all-more (hasRead (args .down) (args .logged) (args .t4)) (at .p) (at .inv .1)
+      all-more (hasRead (args .down) (args .counts .now)) (at .p) (at .inv .1)
           (or-left (hasBit (args .down) (at .p)) _ (sym (c .before .has-site .ensures) ∙ c .if2 .taken)),
     )
 
+-- src/quiet.rt:52:17
 cast-i : tie.Need-cast-i Inv-loop μ-loop
 cast-i c = search needs
 
+-- src/quiet.rt:54:13
 returns-2 : tie.Need-returns-2 Inv-loop μ-loop
 unfolding allRead
 returns-2 c =
     let at = c .before .before .before .before .loop in
-    let start = c .before .before .before .before .before .before in
-    let args = start .args in
-    let outside : length (args .t4) ≤ at .p = omega (arith, long start, c .if3 .taken) in
-    let some : 0 < args .logged = omega (arith, c .before .before .before .before .before .if1 .left) in
-    sym (all-fails (hasRead (args .down) (args .logged) (args .t4)) (args .n) (at .p) (c .before .before .before .loop-test .taken)
-    (past (args .down) (args .logged) (args .t4) (at .p) (sym (c .before .before .has-site .ensures) ∙ c .before .if2 .left) outside some))
+    let args = c .before .before .before .before .before .before .before .args in
+    let some : 0 < getD (args .counts .now) loggedAt 0 = omega (arith, c .before .before .before .before .before .if1 .left) in
+    sym (all-fails (hasRead (args .down) (args .counts .now)) (args .n) (at .p) (c .before .before .before .loop-test .taken)
+    (behind (args .down) (args .counts .now) (at .p) (sym (c .before .before .has-site .ensures) ∙ c .before .if2 .left) (rw (le-ltb (at .p) sites (c .if3 .taken)) some)))
 
-mul-s : tie.Need-mul-s Inv-loop μ-loop
-mul-s c = search needs
+-- src/quiet.rt:56:19
+add-if4 : tie.Need-add-if4 Inv-loop μ-loop
+add-if4 c = search needs
 
-array-copy-out-s : tie.Need-array-copy-out-s Inv-loop μ-loop
-array-copy-out-s c = search needs
+-- src/quiet.rt:56:12
+mul-if4 : tie.Need-mul-if4 Inv-loop μ-loop
+mul-if4 c = search needs
 
+-- src/quiet.rt:56:12
+element-copy-out-if4 : tie.Need-element-copy-out-if4 Inv-loop μ-loop
+element-copy-out-if4 c = search needs
+
+-- src/quiet.rt:57:13
 returns-3 : tie.Need-returns-3 Inv-loop μ-loop
 unfolding allRead
 returns-3 c =
-    let at2 = c .before .before .before .before .before in
+    let at2 = c .before .before .before .before in
     let at = at2 .before .before .loop in
-    let args = at2 .before .before .before .before .args in
-    sym (all-fails (hasRead (args .down) (args .logged) (args .t4)) (args .n) (at .p) (at2 .before .loop-test .taken)
-    (behind (args .down) (args .logged) (args .t4) (at .p) (sym (at2 .has-site .ensures) ∙ c .before .before .before .before .if2 .left) (c .if4 .taken)))
+    let args = at2 .before .before .before .before .before .args in
+    sym (all-fails (hasRead (args .down) (args .counts .now)) (args .n) (at .p) (at2 .before .loop-test .taken)
+    (behind (args .down) (args .counts .now) (at .p) (sym (at2 .has-site .ensures) ∙ c .before .before .before .if2 .left) (rw (lt-ltb (at .p) sites (c .before .before .if3 .left)) (c .if4 .taken))))
 
+-- src/quiet.rt:48:9
 add-p-2 : tie.Need-add-p-2 Inv-loop μ-loop
 add-p-2 c = search needs
 
+-- src/quiet.rt:48:5
 loop-less-2 : tie.Need-loop-less-2 Inv-loop μ-loop
 loop-less-2 c = search needs
 
+-- src/quiet.rt:48:5
 loop-again-2 : tie.Need-loop-again-2 Inv-loop μ-loop
 loop-again-2 c =
-    let at2 = c .before .before .before .before .before in
+    let at2 = c .before .before .before .before in
     let at = at2 .before .before .loop in
-    let args = at2 .before .before .before .before .args in (
+    let args = at2 .before .before .before .before .before .args in (
       search needs,
-      all-more (hasRead (args .down) (args .logged) (args .t4)) (at .p) (at .inv .1)
-          (or-right (hasBit (args .down) (at .p)) _ (le-leb (args .logged) (getD (args .t4) (at .p) noSite .place) (c .if4 .left))),
+      all-more (hasRead (args .down) (args .counts .now)) (at .p) (at .inv .1)
+          (or-right (hasBit (args .down) (at .p)) _ (le-leb (getD (args .counts .now) loggedAt 0) (placeIn (args .counts .now) (at .p)) (rw (lt-ltb (at .p) sites (c .before .before .if3 .left)) (c .if4 .left)))),
     )
 
+-- src/quiet.rt:41:1
 returns-4 : tie.Need-returns-4 Inv-loop μ-loop
 unfolding allRead
 returns-4 c =
     let at = c .before .loop in
-    let args = c .before .before .before .args in
-    sym (all-end (hasRead (args .down) (args .logged) (args .t4)) (args .n) (at .p) (omega (arith, at .inv .0, c .loop-test .left)) (at .inv .1))
+    let args = c .before .before .before .before .args in
+    sym (all-end (hasRead (args .down) (args .counts .now)) (args .n) (at .p) (omega (arith, at .inv .0, c .loop-test .left)) (at .inv .1))
 
 pub all-read-spec : {M : Type 1} → statement M
 all-read-spec =
@@ -108,6 +129,7 @@ all-read-spec =
     (tie.spec
     Inv-loop
     μ-loop
+    element-copy-out-logged
     returns
     loop-holds
     has-site-requires
@@ -116,8 +138,9 @@ all-read-spec =
     loop-again
     cast-i
     returns-2
-    mul-s
-    array-copy-out-s
+    add-if4
+    mul-if4
+    element-copy-out-if4
     returns-3
     add-p-2
     loop-less-2

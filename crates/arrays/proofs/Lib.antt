@@ -1,0 +1,3 @@
+-- Laws that the crates above share.
+-- Rests on the specs.
+pub mod Slots

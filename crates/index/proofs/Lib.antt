@@ -1,0 +1,3 @@
+-- Laws of the index that the crates above share.
+-- Rests on the specs.
+pub mod Indexed

@@ -1,0 +1,40 @@
+-- `is_quiet_at` meets its contract.
+-- Assumes nothing.
+use mathlib.Core.Path.{sym, _∙_}
+use Rattle.arrays.specs.Arrays.{arrays}
+use Rattle.machine.specs.View.{view}
+use Rattle.machine.specs.QuietParts.{quiet-few}
+use Rattle.shown.proofs.Places.{places-at}
+use borrow.Author.Needs.{needs}
+use Rattle.shown.proofs.quiet.is_quiet_at.Statement.{statement}
+use Rattle.shown.proofs.quiet.is_quiet_at.Tie as tie
+use Rattle.shown.proofs.quiet.is_quiet_at.Reads as reads
+use Rattle.shown.proofs.quiet.is_quiet_at.Lts as lts
+use Rattle.arrays.proofs.load.Reads as load-reads
+use Rattle.shown.proofs.quiet.quiet_by.Reads as quiet-by-reads
+
+-- src/quiet.rt:111:9
+load-requires : tie.Need-load-requires
+load-requires c κs = search needs
+
+-- src/quiet.rt:112:30
+element-copy-out-quiet-by : tie.Need-element-copy-out-quiet-by
+element-copy-out-quiet-by c = search needs
+
+-- src/quiet.rt:112:5
+quiet-by-requires : tie.Need-quiet-by-requires
+quiet-by-requires c κs = search needs
+
+-- src/quiet.rt:102:1
+returns : tie.Need-returns
+unfolding view
+returns c =
+    let start = c .before .before .before in
+    let args = start .args in
+    λ amounts good carried.
+    let a = arrays (args .words .now) (args .counts .now) (args .bytes .now) amounts (args .masks .now) good carried in
+    c .quiet-by .ensures ∙ rw (c .before .before .load .ensures) (sym (quiet-few (view (args .setup) a) (args .counts .now) (places-at (args .setup) a) (start .pre .0) (start .pre .1)))
+
+pub is-quiet-at-spec : {M : Type 1} → statement M
+is-quiet-at-spec =
+    tie.close (tie.spec load-requires element-copy-out-quiet-by quiet-by-requires returns)
