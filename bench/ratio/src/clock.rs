@@ -1,4 +1,4 @@
-// Holds: calls timed in turns, and what the samples come to: the best, the quartiles and the spread.
+// Holds: calls timed in turns, and what the samples come to: the best and the quartiles.
 // Rests on: Linux's clock of a thread's own time, which stands still while others have the processor.
 
 use std::time::Duration;
@@ -82,11 +82,5 @@ impl Samples {
 
     pub fn quartiles(&self) -> (f64, f64) {
         (self.at(0.25), self.at(0.75))
-    }
-
-    /// The distance of the quartiles, in hundredths of the best.
-    pub fn spread(&self) -> f64 {
-        let (low, high) = self.quartiles();
-        100.0 * (high - low) / self.best()
     }
 }

@@ -1,16 +1,26 @@
-// Holds: the benchmark: tables of speeds and their ratio, for run files and for drains, and one of memory.
-// Rests on: cases, clock, memory.
+// Holds: the benchmark: tables of speeds and ratios for run files, drains and events alone, and one of memory.
+// Rests on: cases, sides, clock, memory.
 //
-// Both sides get the same bytes, made beforehand, in the same process, and take turns. A call has all of its work
+// All sides get the same bytes, made beforehand, in the same process, and take turns. A call has all of its work
 // in it: the file is decoded, its events are done, and the text or the books are written. Slices that are lent
 // are made once and not cleared between calls. Each case is compared before it is timed.
 
 mod cases;
 mod clock;
+mod conflicts;
 mod memory;
+mod sides;
 
-use cases::{cases, Case, Side, SIDES};
+use cases::{cases, largest, Case};
 use clock::{in_turns, Samples, Timed};
+use sides::{Side, PROVED, SIDES};
+
+/// What the figures of a side are.
+#[derive(Clone, Copy)]
+enum Unit {
+    EventsPerSecond,
+    Nanoseconds,
+}
 
 fn main() {
     if let Some(name) = std::env::args().nth(1) {
@@ -20,41 +30,77 @@ fn main() {
     for side in &SIDES {
         cases.iter().for_each(|case| side.check(case));
     }
-    println!("Run files: decoded, events done, text written.\n");
-    table(&cases, |side, case| {
-        (case.events, side.on_file(&case.carried))
+    println!("Run files: decoded, events done, text written. Events per second.\n");
+    table(&cases, Unit::EventsPerSecond, |side, case| {
+        Some((case.events, side.on_file(&case.carried)))
     });
-    println!("Drains: offers decoded and done, the board drained to quiet, books written.\n");
-    table(&cases, |side, case| {
-        (case.drained, side.on_drain(&case.offered))
+    println!("Drains: offers decoded and done, the board drained to quiet, books written. Events per second.\n");
+    table(&cases, Unit::EventsPerSecond, |side, case| {
+        Some((case.drained, side.on_drain(&case.offered)))
     });
-    memory::table(cases.last().expect("there are cases"));
+    println!("Run files without printing: decoded, events done. ns an event without printing.\n");
+    table(&cases, Unit::Nanoseconds, |side, case| {
+        Some((case.events, side.on_events(&case.carried)?))
+    });
+    memory::table(largest(&cases));
 }
 
-/// One line a case: the best of the speeds, the distance of their quartiles, the ratio of the best, and the
-/// quartiles of the ratio turn by turn.
-fn table<'a>(cases: &'a [Case], timed: impl Fn(&'a Side, &'a Case) -> Timed<'a>) {
-    print!("  n  postings  events");
-    for side in &SIDES {
-        print!("  {:>6} events/s  spread", side.name);
-    }
-    if let [model, proved] = &SIDES[..] {
-        print!("  {}/{}    from      to", proved.name, model.name);
-    }
-    println!();
+/// One line a case: the best of each side that has the call; then for the proved one, against each other, the ratio
+/// of the best speeds and the quartiles of the ratio turn by turn.
+fn table<'a>(
+    cases: &'a [Case],
+    unit: Unit,
+    timed: impl Fn(&'a Side, &'a Case) -> Option<Timed<'a>>,
+) {
+    let has = |side: &&'a Side| timed(side, &cases[0]).is_some();
+    let sides: Vec<&Side> = SIDES.iter().filter(has).collect();
+    header(&sides);
     for case in cases {
-        let mut calls: Vec<Timed> = SIDES.iter().map(|side| timed(side, case)).collect();
-        print!("{:3}  {:8}  {:6}", case.n, case.postings, calls[0].0);
+        let mut calls: Vec<Timed> = sides.iter().filter_map(|side| timed(side, case)).collect();
+        let Case {
+            n,
+            postings,
+            accounts,
+            ..
+        } = case;
+        print!("{n:3}  {postings:8}  {accounts:8}  {:6}", calls[0].0);
         let speeds = in_turns(&mut calls);
         for speed in &speeds {
-            print!("  {:15.0}  {:5.1}%", speed.best(), speed.spread());
+            match unit {
+                Unit::EventsPerSecond => print!("  {:10.0}", speed.best()),
+                Unit::Nanoseconds => print!("  {:10.2}", 1e9 / speed.best()),
+            }
         }
-        if let [model, proved] = &speeds[..] {
-            let ratio = proved.best() / model.best();
-            let (low, high) = Samples::ratio(proved, model).quartiles();
-            print!("  {ratio:12.3}  {low:6.3}  {high:6.3}");
+        if let Some((proved, others)) = split_proved(&sides, &speeds) {
+            others.iter().for_each(|other| ratio(proved, other));
         }
         println!();
     }
     println!();
+}
+
+/// What belongs to the proved side, which is the last if it is there, and what belongs to the others.
+fn split_proved<'a, T>(sides: &[&Side], each: &'a [T]) -> Option<(&'a T, &'a [T])> {
+    each.split_last()
+        .filter(|_| sides.last().is_some_and(|side| side.name == PROVED))
+}
+
+fn header(sides: &[&Side]) {
+    print!("  n  postings  accounts  events");
+    for side in sides {
+        print!("  {:>10}", side.name);
+    }
+    if let Some((proved, others)) = split_proved(sides, sides) {
+        for other in others {
+            let name = format!("{}/{}", proved.name, other.name);
+            print!("  {name:>12}    from      to");
+        }
+    }
+    println!();
+}
+
+fn ratio(above: &Samples, below: &Samples) {
+    let ratio = above.best() / below.best();
+    let (low, high) = Samples::ratio(above, below).quartiles();
+    print!("  {ratio:12.3}  {low:6.3}  {high:6.3}");
 }

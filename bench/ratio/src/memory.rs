@@ -1,7 +1,8 @@
 // Holds: the peak memory and the stack of a process that does one call, as the system counts them.
-// Rests on: cases; /proc/self/status.
+// Rests on: cases, sides; /proc/self/status.
 
-use crate::cases::{Case, SIDES};
+use crate::cases::Case;
+use crate::sides::SIDES;
 use std::io::{Read, Write};
 use std::process::{Command, ExitStatus, Stdio};
 use std::{env, fs};

@@ -1,45 +1,42 @@
--- Drain's loop: what each turn does is one event of the definition, from the results of the code's calls; and what its ends give.
--- Rests on NextEvent, Nexts, Floor, on machine's laws and on invariants. Assumes nothing.
+-- Drain's loop on a board by value: one event more, and the ends; which event is next, from the results of the code's search; and the floor that an
+-- event leaves. Rests on NextEvent and Floor, on machine's laws and on invariants. Assumes nothing.
 use Prim.Native.Nat.{ℕ, zero, suc, _+_, _-_, _^_, _<_, _≤_}
-use mathlib.Core.Path.{_≡_, refl, sym, ap, _∙_}
-use mathlib.Core.Logic.{_≢_}
-use mathlib.Core.Bool.{Bool, true, false, cond}
-use mathlib.Core.List.{List}
+use mathlib.Core.Path.{_≡_, refl, sym, ap, _∙_, subst}
+use mathlib.Core.Logic.{_⊎_, inl, inr, _≢_}
+use mathlib.Core.Bool.{Bool, true, false}
 use native.Mathlib.Omega.{arith}
 use lib.ListN.{take, drop}
 use lib.Pow.{pow-mono}
-use Rattle.sets.specs.declared.Set.{Set}
-use Rattle.sets.specs.Truth.{never, not-so}
-use Rattle.sets.specs.Sets.{capacity, membersOf, without}
-use Rattle.posting.specs.declared.Record.{Record}
-use Rattle.posting.specs.ConflictLaws.{offered-below}
-use Rattle.posting.specs.Records.{append}
-use Rattle.site.specs.declared.Site.{Site}
-use Rattle.site.specs.Sites.{sites, siteDelivered}
+use Rattle.sets.specs.Truth.{not-so}
+use Rattle.sets.specs.Sets.{capacity, membersOf}
+use Rattle.site.specs.Sites.{sites}
 use Rattle.site.specs.Steps.{ownerOf}
-use Rattle.site.specs.ByMask.{readSite, deliveringEntry}
 use Rattle.flight.specs.declared.Found.{Found}
 use Rattle.flight.specs.declared.Found.the-variants.{Nothing, Message}
-use Rattle.flight.specs.Flights.{cells, inFlight, sendingTo, takingFrom, takingOut, lowestFrom, lowestIn, lowest}
+use Rattle.flight.specs.Flights.{cells, cellAt, sendingMask, takingOut, lowestFrom, lowestIn, lowest}
 use Rattle.flight.specs.FloorLaws.{NoneBelow, floor-search, message-floor, nothing-floor}
+use Rattle.site.specs.declared.Setup.{Setup}
+use Rattle.arrays.specs.Arrays.{Arrays}
 use Rattle.machine.specs.declared.Board.{Board}
+use Rattle.machine.specs.View.{view}
 use Rattle.steps.specs.declared.Cut.the-variants.{Whole}
 use Rattle.steps.specs.declared.Call.{Call}
 use Rattle.steps.specs.declared.Call.the-variants.{Receive, Order, Read}
-use Rattle.machine.specs.Boards.{siteAt, entryAt, loggedAt, boardFlight, boardPool}
-use Rattle.machine.specs.Runs.{taking, accepted, isQuiet, upMask}
+use Rattle.machine.specs.Boards.{siteAt, tallyAt, entryAt, boardFlight}
+use Rattle.machine.specs.Calls.{reading}
+use Rattle.machine.specs.Runs.{taking, isQuiet, upMask}
 use Rattle.machine.specs.ByMask.{placed}
 use Rattle.machine.specs.QuietParts.{upByte, up-byte}
 use Rattle.machine.proofs.Facts.{Placed, message-placed}
-use Rattle.machine.proofs.Placed.{whole-is, receipt, receipt-fits, receipt-is, boardRead, read-whole}
+use Rattle.machine.proofs.Placed.{whole-is, receipt, receipt-fits, receipt-is, read-whole}
 use Rattle.invariants.proofs.Judged.{ReceiptTaken, ReadTaken, receipt-taken, order-taken, read-taken, nextLogged}
 use Rattle.invariants.proofs.Reached.{GoodIf, good-sites, good-flight, call-good}
 use Rattle.drain.specs.declared.Ending.{Ending}
 use Rattle.drain.specs.declared.Ending.the-variants.{Quiet, Spent}
 use Rattle.drain.specs.declared.Drained.{Drained}
-use Rattle.drain.specs.Firsts.{lowestChanged}
-use Rattle.drain.specs.Drain.{Next, none, event, nextOrder, nextRead, nextAfter, nextEvent, draining}
-use Rattle.drain.proofs.Floor.{passed-floor}
+use Rattle.drain.specs.Firsts.{floorAfter}
+use Rattle.drain.specs.Drain.{Next, none, event, nextOrder, nextAfter, nextEvent, draining}
+use Rattle.drain.proofs.Floor.{receipt-above, passed-floor}
 use Rattle.drain.proofs.NextEvent.{next-accepted, next-none, quiet-next, not-none}
 
 -- ---- one event more, and the ends
@@ -100,35 +97,35 @@ next-other b e = rw e
 abbrev pub Floor : Board → ℕ → Type 0
 Floor b floor = NoneBelow (b .flight .masks) (upByte (b .setup .n) (b .down)) floor
 
--- from the results of the search
-module _ {clean : Bool} (b : Board) (g : GoodIf clean b) (floor : ℕ) (low : Floor b floor) (up : ℕ) (found : Found) (masked : up ≡ upByte (b .setup .n) (b .down))
-    (sought : found ≡ lowestFrom floor (drop floor (take cells (b .flight .masks))) up) where
-  from-all : found ≡ lowestIn (b .flight .masks) (upByte (b .setup .n) (b .down))
-  from-all = sought ∙ rw masked (sym (floor-search (b .flight .masks) (upByte (b .setup .n) (b .down)) floor low))
+-- from the results of the search from the floor on
+module _ {clean : Bool} (b : Board) (g : GoodIf clean b) (floor : ℕ) (low : Floor b floor) (up : ℕ) (masked : up ≡ upByte (b .setup .n) (b .down)) where
+  abbrev sought : Found
+  sought = lowestFrom floor (drop floor (take cells (b .flight .masks))) up
 
-  searched : found ≡ lowest (b .flight) (upMask b)
+  from-all : sought ≡ lowestIn (b .flight .masks) (upByte (b .setup .n) (b .down))
+  from-all = rw masked (sym (floor-search (b .flight .masks) (upByte (b .setup .n) (b .down)) floor low))
+
+  searched : sought ≡ lowest (b .flight) (upMask b)
   searched = from-all ∙ rw (up-byte b (good-sites b g))
 
   up-small : upByte (b .setup .n) (b .down) < 2 ^ sites
   unfolding upMask
   up-small = omega (arith, up-byte b (good-sites b g), pow-mono (good-sites b g))
 
-  pub message-next : (form m from to : ℕ) → found ≡ Message form m from to → nextEvent b ≡ event (Receive form m from to Whole)
-  message-next form m from to e = next-message b form m from to (sym searched ∙ e)
+  module _ (form m from to : ℕ) (e : sought ≡ Message form m from to) where
+    pub message-next : nextEvent b ≡ event (Receive form m from to Whole)
+    message-next = next-message b form m from to (sym searched ∙ e)
 
-  pub other-next : found ≡ Nothing → nextEvent b ≡ nextOrder b (membersOf (b .pool))
+    -- the cell of what was found is a floor
+    pub message-low : Floor b (cellAt form m from)
+    message-low = message-floor (b .flight .masks) (upByte (b .setup .n) (b .down)) up-small form m from to (sym from-all ∙ e)
+
+  pub other-next : sought ≡ Nothing → nextEvent b ≡ nextOrder b (membersOf (b .pool))
   other-next e = next-other b (sym searched ∙ e)
 
-  -- the floor of the board that the receipt leaves, and of this one where nothing was found
-  pub receipt-floor :
-      (form m from to sent receivers next : ℕ) (masks : List ℕ) → found ≡ Message form m from to → next ≡ lowestChanged form m from sent to receivers
-      → masks ≡ sendingTo (takingFrom (b .flight .masks) form m from to) sent m to receivers → NoneBelow masks (upByte (b .setup .n) (b .down)) next
-  receipt-floor form m from to sent receivers next masks e f passed =
-      let at = message-floor (b .flight .masks) (upByte (b .setup .n) (b .down)) up-small form m from to (sym from-all ∙ e) in
-      rw (passed, f) (passed-floor form m from sent to receivers (b .flight .masks) (upByte (b .setup .n) (b .down)) at)
-
-  pub other-floor : found ≡ Nothing → Floor b cells
-  other-floor e = nothing-floor (b .flight .masks) (upByte (b .setup .n) (b .down)) up-small (sym from-all ∙ e)
+  -- where nothing was found all cells are below one
+  pub other-low : sought ≡ Nothing → Floor b cells
+  other-low e = nothing-floor (b .flight .masks) (upByte (b .setup .n) (b .down)) up-small (sym from-all ∙ e)
 
 -- ---- the loop's invariant: the board is sound, what is left to do from it is what the drain does, and the floor is one
 
@@ -148,43 +145,64 @@ one-more board limit b count floor k c e d after a next low = record {
   low = low;
 }
 
--- ---- what the event does
+-- ---- the floor that an event leaves
 
 module _ {clean : Bool} (b : Board) (g : GoodIf clean b) where
   module _ (form m from to : ℕ) (next : nextEvent b ≡ event (Receive form m from to Whole)) where
     received : ReceiptTaken b form m from to Whole
     received = receipt-taken b form m from to Whole (unfold taking in (next-accepted b g (Receive form m from to Whole) next .0))
 
-    pub message-at : Placed form m from to
-    message-at = message-placed b form m from to (received .coming)
+    at : Placed form m from to
+    at = message-placed b form m from to (received .coming)
 
-    pub receive-does : placed (boardFlight b (takingOut (b .flight) form m from to)) to m (receipt b form m from to) ≡ taking b (Receive form m from to Whole) .board
+    receive-does : taking b (Receive form m from to Whole) .board ≡ placed (boardFlight b (takingOut (b .flight) form m from to)) to m (receipt b form m from to)
     unfolding taking
     receive-does =
         let message = good-flight b g .each form m from to (received .coming) in
         let owner : ownerOf (b .table) m < 7 = omega (arith, good-sites b g, g .sound .owners m (message .named)) in
-        let is = receipt-is b form m from to (good-sites b g) (message-at .from-below) owner in
-        sym (received .board ∙ rw (sym is) (whole-is (boardFlight b (takingOut (b .flight) form m from to)) to m (receipt b form m from to) (receipt-fits b form m from to)))
+        let is = receipt-is b form m from to (good-sites b g) (at .from-below) owner in
+        received .board ∙ rw (sym is) (whole-is (boardFlight b (takingOut (b .flight) form m from to)) to m (receipt b form m from to) (receipt-fits b form m from to))
 
-  module _ (m : ℕ) (next : nextEvent b ≡ event (Order m)) where
-    pub order-does : (pool : Set) (log : Record) → pool ≡ without (b .pool) m → log ≡ append (b .log) m → boardPool b pool (b .entries) log ≡ taking b (Order m) .board
-    unfolding taking
-    order-does pool log p l = rw (p, l) (sym (order-taken b m (unfold taking in (next-accepted b g (Order m) next .0)) .board))
+    pub receive-low : Floor b (cellAt form m from) → Floor (taking b (Receive form m from to Whole) .board) (floorAfter form m from to)
+    unfolding placed sendingMask takingOut
+    receive-low low =
+        let s = receipt b form m from to .sends in
+        let above = receipt-above form m from to at (b .setup) (b .table) (siteAt b to) (tallyAt b m) _ _ in
+        subst (λ (x : Board). Floor x (floorAfter form m from to)) (sym receive-does) (passed-floor form m from to (b .flight .masks) s above (upByte (b .setup .n) (b .down)) low)
 
-  module _ (p : ℕ) (next : nextEvent b ≡ event (Read p Whole)) where
-    reads : ReadTaken b p Whole
-    reads = read-taken b p Whole (unfold taking in (next-accepted b g (Read p Whole) next .0))
+  pub order-low : (m : ℕ) → nextEvent b ≡ event (Order m) → Floor b cells → Floor (taking b (Order m) .board) cells
+  unfolding taking
+  order-low m next low = subst (λ (x : Board). Floor x cells) (sym (order-taken b m (unfold taking in (next-accepted b g (Order m) next .0)) .board)) low
 
-    pub read-site : p < sites
-    read-site = omega (arith, good-sites b g, reads .acts .there)
+  pub read-low : (p : ℕ) → nextEvent b ≡ event (Read p Whole) → Floor b cells → Floor (taking b (Read p Whole) .board) cells
+  unfolding taking
+  read-low p next low = go (read-taken b p Whole (unfold taking in (next-accepted b g (Read p Whole) next .0)))
+    where
+      go : ReadTaken b p Whole → Floor (reading b p Whole .board) cells
+      go k =
+          let place : siteAt b p .place < capacity = omega (arith, k .left, g .sound .log .within) in
+          subst (λ (x : Board). Floor x cells) (sym (k .board ∙ read-whole b p (nextLogged b p) (entryAt b (nextLogged b p)) place)) low
 
-    pub read-place : siteAt b p .place < capacity
-    read-place = omega (arith, reads .left, g .sound .log .within)
+-- ---- what a drain hands back
 
-    pub read-entry : nextLogged b p < capacity
-    read-entry = (offered-below (b .table) (nextLogged b p) (g .sound .log .named (siteAt b p .place) (reads .left))) .1
+pub next-cases : (x : Next) → (x ≡ none) ⊎ ((c : Call) × (x ≡ event c))
+next-cases none = inl refl
+next-cases (event c) = inr (c, refl)
 
-    pub read-does : (next after : Site) → next ≡ readSite (siteAt b p) → after ≡ siteDelivered next (deliveringEntry (next .delivered) (entryAt b (nextLogged b p)) (nextLogged b p))
-        → boardRead b p after (b .down) ≡ taking b (Read p Whole) .board
-    unfolding taking
-    read-does next after e a = rw (a, e) (sym (reads .board ∙ read-whole b p (nextLogged b p) (entryAt b (nextLogged b p)) read-place))
+draining-limit : (left limit count : ℕ) (b : Board) → draining left limit count b .limit ≡ limit
+unfolding draining
+draining-limit zero limit count b = refl
+draining-limit (suc left) limit count b = elim (next-cases (nextEvent b)) [
+  | inl e ↦ rw (draining-none left limit count b e)
+  | inr e ↦ rw (draining-event left limit count b (e .0) (e .1)) (draining-limit left limit (count + 1) (taking b (e .0) .board))
+]
+
+-- from its parts, on a board at work that shows b
+pub handed-back :
+    (setup : Setup) (a d : Arrays) (b after : Board) (limit count : ℕ) (ending : Ending) → view setup a ≡ b → after ≡ view setup d
+    → view setup d ≡ draining limit limit 0 (view setup a) .board → count ≡ draining limit limit 0 (view setup a) .count
+    → ending ≡ draining limit limit 0 (view setup a) .ending
+    → record { board = after; limit = limit; count = count; ending = ending } ≡ draining limit limit 0 b
+handed-back setup a d b after limit count ending v e0 e1 e2 e3 =
+    rw (e0, e1, e2, e3, v) (ap (λ (l : ℕ). record { board = draining limit limit 0 b .board; limit = l; count = draining limit limit 0 b .count; ending = draining limit limit 0 b .ending })
+    (sym (draining-limit limit limit 0 b)))

@@ -7,14 +7,13 @@ use mathlib.Core.Bool.{Bool, true, false, cond}
 use mathlib.Core.List.{List}
 use native.Mathlib.Omega.{arith}
 use native.Mathlib.Numerals.{add-one}
-use native.Mathlib.Decide.{ℕ-discrete}
+use native.Mathlib.Decide.{ℕ-discrete, decLt}
 use lib.Dec.{ltb}
-use lib.ListN.{length, getD, List·getD-eq-default}
+use lib.ListN.{getD}
 use borrow.Author.Tests.{ltb-true, ltb-false, lt-ltb, le-ltb}
 use Rattle.sets.specs.Masks.{hasBit}
-use Rattle.sets.specs.Truth.{test}
-use Rattle.site.specs.declared.Site.{Site}
-use Rattle.site.specs.Sites.{noSite}
+use Rattle.sets.specs.Truth.{test, never}
+use Rattle.arrays.specs.Layout.{loggedAt, placeAt}
 use Rattle.drain.specs.Firsts.{firstBelow, reads}
 
 -- r is the first number below n that passes, or n and none does
@@ -76,17 +75,28 @@ module _ (p : ℕ → Bool) where
   is-first zero = subst (IsFirst p zero) (sym first-start) (record { most = omega arith; passes = λ h. absurd (omega arith); fails = λ i h. absurd (omega arith) })
   is-first (suc n) = one-more n (is-first n)
 
+-- and nothing else is
+pub first-is : (p : ℕ → Bool) (n r : ℕ) → IsFirst p n r → r ≡ firstBelow p n
+first-is p n r h = go (is-first p n)
+  where
+    go : IsFirst p n (firstBelow p n) → r ≡ firstBelow p n
+    go g = elim (decLt r (firstBelow p n)) [
+      | yes l ↦ absurd (never (h .passes (omega (arith, g .most, l))) (g .fails r l))
+      | no l ↦ elim (ℕ-discrete r (firstBelow p n)) [
+        | yes e ↦ e
+        | no d ↦
+            let before : firstBelow p n < r = omega arith in
+            absurd (never (g .passes (omega (arith, h .most, before))) (h .fails (firstBelow p n) before))
+      ]
+    ]
+
 -- ---- which sites have log left
 
-module _ (sites : List Site) (down logged p : ℕ) where
-  pub reads-down : hasBit down p ≡ true → reads sites down logged p ≡ false
+module _ (counts : List ℕ) (down p : ℕ) where
+  pub reads-down : hasBit down p ≡ true → reads counts down p ≡ false
   unfolding reads
   reads-down t = rw t
 
-  pub reads-up : (v : Bool) → hasBit down p ≡ false → ltb (getD sites p noSite .place) logged ≡ v → reads sites down logged p ≡ v
+  pub reads-up : (v : Bool) → hasBit down p ≡ false → ltb (getD counts (placeAt p) 0) (getD counts loggedAt 0) ≡ v → reads counts down p ≡ v
   unfolding reads
   reads-up v f t = rw (f, t)
-
-  -- where there is no site
-  pub reads-past : (v : Bool) → length sites ≤ p → hasBit down p ≡ false → ltb 0 logged ≡ v → reads sites down logged p ≡ v
-  reads-past v h f t = reads-up v f (ap (λ (s : Site). ltb (s .place) logged) (List·getD-eq-default sites noSite h) ∙ t)

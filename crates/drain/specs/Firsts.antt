@@ -1,13 +1,13 @@
 -- What the code's searches give: for the next order and the next reading the first number below n that passes, and which sites have log left;
--- for the next receipt the lowest cell that one changes. Rests on flight, site and sets. Tied to Drain by proofs/Nexts and proofs/Floor.
+-- for the next receipt the cell below which none has a message. Rests on arrays and flight. Tied to Drain by proofs/Nexts and proofs/Floor.
 use Prim.Native.Nat.{ℕ, zero, suc, min}
 use mathlib.Core.Bool.{Bool, cond, not, _&&_}
 use mathlib.Core.List.{List}
-use lib.Dec.{eqb, ltb}
+use lib.Dec.{ltb}
 use lib.ListN.{getD}
 use Rattle.sets.specs.Masks.{hasBit}
-use Rattle.site.specs.declared.Site.{Site}
-use Rattle.site.specs.Sites.{noSite}
+use Rattle.site.specs.Sends.{DELIVER}
+use Rattle.arrays.specs.Layout.{loggedAt, placeAt}
 use Rattle.flight.specs.Flights.{cellAt}
 
 -- the first number below n that passes; n if none does
@@ -17,10 +17,11 @@ firstBelow p (suc n) =
     let rest = firstBelow p n in
     cond (ltb rest n) rest (cond (p n) n (suc n))
 
--- site p is not down, and of a log of so many entries some are left for it; where there is no site, its place counts as 0
-unfoldable pub reads : List Site → ℕ → ℕ → ℕ → Bool
-reads sites down logged p = not (hasBit down p) && ltb (getD sites p noSite .place) logged
+-- site p is not down, and of the log some entries are left for it, by the counts of a board at work
+unfoldable pub reads : List ℕ → ℕ → ℕ → Bool
+reads counts down p = not (hasBit down p) && ltb (getD counts (placeAt p) 0) (getD counts loggedAt 0)
 
--- the lowest cell that changes in flight when a message is taken out and its receiver sends about it: sent to no site, only the message's
-unfoldable pub lowestChanged : ℕ → ℕ → ℕ → ℕ → ℕ → ℕ → ℕ
-lowestChanged form m from sent to receivers = cond (eqb receivers 0) (cellAt form m from) (min (cellAt form m from) (cellAt sent m to))
+-- The lowest cell that a receipt changes: what one before DELIVER sends stands in later cells than its message; a DELIVER may be relayed, from the
+-- receiver's cell.
+unfoldable pub floorAfter : ℕ → ℕ → ℕ → ℕ → ℕ
+floorAfter form m from to = cond (ltb form DELIVER) (cellAt form m from) (min (cellAt form m from) (cellAt form m to))

@@ -1,24 +1,34 @@
-// The next event of a board, and drain.
-// Rests on machine, flight and site.
+// Drain: events, uncut, until the board is quiet or the limit is used up; on a board at work, and on a board by value.
+// Rests on machine, events, arrays, flight and site.
 ghost use mathlib.Core.Path.{_≡_};
-ghost use mathlib.Core.Bool.{true};
+ghost use mathlib.Core.Bool.{true, false};
+ghost use Rattle.arrays.specs.Arrays.{arrays};
 ghost use Rattle.machine.specs.Soundness.{isSound};
+ghost use Rattle.machine.specs.View.{view, Right};
+ghost use Rattle.invariants.proofs.Reached.{GoodIf};
 ghost use Rattle.drain.specs.Drain.{draining, drained};
+use arrays::BYTES;
+use arrays::COUNTS;
+use arrays::DOWN;
+use arrays::SETS;
+use events::perform;
 use flight::Found;
+use flight::LOADS;
 use flight::MASKS;
+use flight::PAIRS;
 use machine::Board;
-use next::lowest_changed;
-use next::lowest_member;
+use machine::laying::lay_out;
+use machine::taking::board_of;
+use masks::has_site;
+use next::floor_after;
+use next::lowest_pooled;
 use next::next_reader;
 use sets::POSTINGS;
 use shown::quiet::up_mask;
-use steps::entered;
-use steps::enters;
-use steps::passing::pass_carried;
-use steps::passing::pass_good;
-use steps::passing::pass_masks;
-use steps::receipt;
-use steps::settle;
+use site::SITES;
+use site::Setup;
+use steps::Call;
+use steps::Cut;
 
 pub mod next;
 
@@ -37,19 +47,52 @@ pub struct Drained {
     pub ending: Ending,
 }
 
-// Drain, of a sound board: the board stays where it is while events are done. No cell below the floor has a message for a site that is up,
-// so the search begins there; a receipt puts the floor at the lowest cell that it changes.
-pub fn drain_sound(board: Board, limit: u64) -> Drained
-    requires { ⌜ isSound board ≡ true ⌝ }
-    ensures { λ r. ⌜ r ≡ draining limit limit 0 board ⌝ }
+// What a drain on a board at work has done: the count of events, and its ending.
+pub struct Done {
+    pub count: u64,
+    pub ending: Ending,
+}
+
+// Drain, of a sound board at work. No cell below the floor has a message for a site that is up, so the search begins there.
+pub fn drain_events(
+    words: &mut [u64; SETS],
+    counts: &mut [usize; COUNTS],
+    bytes: &mut [u8; BYTES],
+    amounts: &mut [u32; POSTINGS],
+    masks: &mut [u8; MASKS],
+    good: &mut [u8; PAIRS],
+    carried: &mut [u64; LOADS],
+    setup: Setup,
+    limit: u64,
+) -> Done
+    requires { ⌜ Right (arrays (now words) (now counts) (now bytes) (now amounts) (now masks) (now good) (now carried)) × GoodIf false (view setup (arrays (now words) (now counts) (now bytes) (now amounts) (now masks) (now good) (now carried))) ⌝ }
+    ensures { λ _. ⌜ view setup (arrays (now (words .exit)) (now (counts .exit)) (now (bytes .exit)) (now (amounts .exit)) (now (masks .exit)) (now (good .exit)) (now (carried .exit))) ≡ draining limit limit 0 (view setup (arrays (now (words .entry)) (now (counts .entry)) (now (bytes .entry)) (now (amounts .entry)) (now (masks .entry)) (now (good .entry)) (now (carried .entry)))) .board ⌝ }
+    ensures { λ r. ⌜ r .count ≡ draining limit limit 0 (view setup (arrays (now (words .entry)) (now (counts .entry)) (now (bytes .entry)) (now (amounts .entry)) (now (masks .entry)) (now (good .entry)) (now (carried .entry)))) .count ⌝ }
+    ensures { λ r. ⌜ r .ending ≡ draining limit limit 0 (view setup (arrays (now (words .entry)) (now (counts .entry)) (now (bytes .entry)) (now (amounts .entry)) (now (masks .entry)) (now (good .entry)) (now (carried .entry)))) .ending ⌝ }
+    ensures { λ _. ⌜ Right (arrays (now (words .exit)) (now (counts .exit)) (now (bytes .exit)) (now (amounts .exit)) (now (masks .exit)) (now (good .exit)) (now (carried .exit))) ⌝ }
 {
-    let mut d = board;
     let mut count: u64 = 0;
     let mut floor: usize = 0;
     let ending = loop {
-        let setup = d.setup;
-        let up = up_mask(setup.n, d.down);
-        let found = flight::lowest_from(&d.flight.masks, up, floor);
+        let up = up_mask(setup.n, bytes[DOWN]);
+        let mut found = Found::Nothing;
+        'search: for k in floor..MASKS {
+            let w = masks[k] & up;
+            if w == 0 {
+                continue;
+            }
+            for to in 0..SITES {
+                if has_site(w, to as u8) {
+                    found = Found::Message {
+                        form: k / PAIRS,
+                        posting: k / SITES % POSTINGS,
+                        from: k % SITES,
+                        to: to,
+                    };
+                    break 'search;
+                }
+            }
+        }
         match found {
             Found::Message {
                 form,
@@ -60,79 +103,48 @@ pub fn drain_sound(board: Board, limit: u64) -> Drained
                 if count == limit {
                     break Ending::Spent;
                 }
-                let good = flight::is_good(&d.flight.good, posting, from, to);
-                let load = flight::carried_set(&d.flight.carried, posting, from);
-                let own = d.sites[to];
-                let tally = d.tallies[posting];
-                let table = d.table;
-                let step = receipt(
-                    setup,
-                    table,
-                    own,
-                    tally,
-                    form,
-                    posting,
-                    from as u8,
-                    to as u8,
+                let why = perform(
+                    words,
+                    counts,
+                    bytes,
+                    amounts,
+                    masks,
                     good,
-                    load,
-                );
-                let noted = step.tally;
-                let sends = step.sends;
-                let sent = sends.form as usize;
-                let carried = sends.carried;
-                let site = settle(step, posting);
-                pass_masks(&mut d.flight.masks, form, posting, from, to, sent, sends.to);
-                pass_good(
-                    &mut d.flight.good,
-                    form,
-                    posting,
-                    from,
-                    to,
-                    sent,
-                    sends.to,
-                    sends.good,
-                );
-                pass_carried(
-                    &mut d.flight.carried,
-                    form,
-                    posting,
-                    from,
-                    to,
-                    sent,
-                    sends.to,
                     carried,
+                    setup,
+                    Call::Receive {
+                        form: form,
+                        posting: posting,
+                        from: from,
+                        to: to,
+                        cut: Cut::Whole,
+                    },
                 );
-                d.sites[to] = site;
-                d.tallies[posting] = noted;
-                let so = enters(sends);
-                let pool = d.pool;
-                let more = pool.with_if(posting, so);
-                d.pool = more;
-                let old = d.entries[posting];
-                let entry = entered(old, sends);
-                d.entries[posting] = entry;
-                floor = lowest_changed(form, posting, from, sent, to, sends.to);
+                floor = floor_after(form, posting, from, to);
                 count = count + 1;
             }
             Found::Nothing => {
                 floor = MASKS;
-                let pool = d.pool;
-                let first = lowest_member(pool);
+                let first = lowest_pooled(words);
                 if first < POSTINGS {
                     if count == limit {
                         break Ending::Spent;
                     }
-                    let log = d.log;
-                    let rest = pool.without(first);
-                    let longer = log.append(first);
-                    d.pool = rest;
-                    d.log = longer;
+                    let why = perform(
+                        words,
+                        counts,
+                        bytes,
+                        amounts,
+                        masks,
+                        good,
+                        carried,
+                        setup,
+                        Call::Order { posting: first },
+                    );
                     count = count + 1;
                     continue;
                 }
-                let log = d.log;
-                let reader = next_reader(d.sites, setup.n, d.down, log.count);
+                let reader = next_reader(counts, setup.n, bytes[DOWN]);
                 let n = setup.n as usize;
                 if n <= reader {
                     break Ending::Quiet;
@@ -140,21 +152,71 @@ pub fn drain_sound(board: Board, limit: u64) -> Drained
                 if count == limit {
                     break Ending::Spent;
                 }
-                let own = d.sites[reader];
-                let place = own.place;
-                let m = log.numbers[place] as usize;
-                let carried = d.entries[m];
-                let moved = own.on_entry();
-                let after = moved.deliver_entry(carried, m);
-                d.sites[reader] = after;
+                let why = perform(
+                    words,
+                    counts,
+                    bytes,
+                    amounts,
+                    masks,
+                    good,
+                    carried,
+                    setup,
+                    Call::Read {
+                        site: reader,
+                        cut: Cut::Whole,
+                    },
+                );
                 count = count + 1;
             }
         }
     };
-    Drained {
-        board: d,
-        limit: limit,
+    Done {
         count: count,
+        ending: ending,
+    }
+}
+
+// Drain, of a sound board by value: laid out on arrays, drained there, and taken off them.
+fn drain_board(board: Board, limit: u64) -> Drained
+    requires { ⌜ isSound board ≡ true ⌝ }
+    ensures { λ r. ⌜ r ≡ draining limit limit 0 board ⌝ }
+{
+    let setup = board.setup;
+    let flight = board.flight;
+    let mut words = [0; SETS];
+    let mut counts = [0; COUNTS];
+    let mut bytes = [0; BYTES];
+    let mut amounts = [0; POSTINGS];
+    let mut masks = flight.masks;
+    let mut good = flight.good;
+    let mut carried = flight.carried;
+    lay_out(&mut words, &mut counts, &mut bytes, &mut amounts, board);
+    let done = drain_events(
+        &mut words,
+        &mut counts,
+        &mut bytes,
+        &mut amounts,
+        &mut masks,
+        &mut good,
+        &mut carried,
+        setup,
+        limit,
+    );
+    let after = board_of(
+        &words,
+        &counts,
+        &bytes,
+        &amounts,
+        masks,
+        good,
+        carried,
+        setup,
+    );
+    let ending = done.ending;
+    Drained {
+        board: after,
+        limit: limit,
+        count: done.count,
         ending: ending,
     }
 }
@@ -164,7 +226,7 @@ pub fn drain(board: Board, limit: u64) -> Drained
     ensures { λ r. ⌜ r ≡ drained board limit ⌝ }
 {
     if board.is_sound() {
-        return drain_sound(board, limit);
+        return drain_board(board, limit);
     }
     Drained {
         board: board,

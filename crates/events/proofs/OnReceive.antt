@@ -26,10 +26,11 @@ pub in-place : (masks : List ℕ) (form m from to : ℕ) → messageIn masks for
 unfolding messageIn
 in-place masks form m from to t =
     let bit = hasBit (receiversIn masks form m from) to in
-    let pair = and-right (ltb form forms) (isPair m from) (and-left (isCell form m from) (ltb to sites && bit) t) in
-    (ltb-true m capacity (and-left (ltb m capacity) (ltb from sites) pair),
+    let pair = and-right (ltb form forms) (isPair m from) (and-left (isCell form m from) (ltb to sites && bit) t) in (
+      ltb-true m capacity (and-left (ltb m capacity) (ltb from sites) pair),
       ltb-true from sites (and-right (ltb m capacity) (ltb from sites) pair),
-      ltb-true to sites (and-left (ltb to sites) bit (and-right (isCell form m from) (ltb to sites && bit) t)))
+      ltb-true to sites (and-left (ltb to sites) bit (and-right (isCell form m from) (ltb to sites && bit) t)),
+    )
 
 module _ (setup : Setup) (a : Arrays) (form m from to : ℕ) (cut : Cut) (why : ℕ) (is : why ≡ firstCause (messageCauses (setup .n) (byte (a .bytes) downAt) from to)) where
   abbrev received : Flat

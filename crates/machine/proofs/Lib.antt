@@ -18,11 +18,16 @@ pub mod DeliveryShown
 pub mod OnDeliver
 pub mod OnRead
 pub mod Fresh
+pub mod Filled
+pub mod Grid
 pub mod Tables
 pub mod OnOffer
+pub mod LaidSets
+pub mod Laid
 pub mod Passed
 pub mod Facts
 pub mod Outcomes
 pub mod Received
 pub mod Gives
 pub mod Performed
+pub mod Answered

@@ -1,7 +1,8 @@
 -- What the code of a call gives in parts: the number of the refusal; a step with what it sends as a mask of receivers; the board that it leaves.
 -- Proof machinery: proofs/ ties each to Calls. Rests on Calls, on flight, site, posting and sets.
 use Prim.Native.Nat.{ℕ}
-use mathlib.Core.Bool.{not}
+use mathlib.Core.Bool.{cond, not}
+use lib.Dec.{eqb}
 use mathlib.Core.List.{List, [], _∷_}
 use lib.ListN.{set}
 use Rattle.sets.specs.Sets.{withIf}
@@ -13,6 +14,7 @@ use Rattle.flight.specs.Flights.{sendingMask}
 use Rattle.steps.specs.ByMask.{settled, enters, entered}
 use Rattle.machine.specs.declared.Board.{Board}
 use Rattle.machine.specs.declared.Outcome.{Outcome}
+use Rattle.machine.specs.declared.Answer.{Answer}
 use Rattle.machine.specs.declared.Answer.the-variants.{Done, Refused}
 use Rattle.machine.specs.Boards.{entryAt}
 use Rattle.machine.specs.Soundness.{sitesOk, crashesOk}
@@ -36,6 +38,10 @@ refusing b why = record { board = b; answer = Refused why }
 
 abbrev pub taken : Board → Outcome
 taken b = record { board = b; answer = Done }
+
+-- the outcome by the number of the refusal, 0 if the call was accepted and so answers
+abbrev pub answeredBy : Answer → Board → ℕ → Outcome
+answeredBy accepted b why = record { board = b; answer = cond (eqb why 0) accepted (Refused why) }
 
 -- ---- the board
 

@@ -10,9 +10,10 @@ use site::Setup;
 use site::Site;
 use site::Tally;
 
-pub mod calls;
+pub mod laying;
 pub mod service;
 pub mod sound;
+pub mod taking;
 
 pub struct Board {
     pub setup: Setup,

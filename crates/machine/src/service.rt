@@ -1,13 +1,93 @@
-// The service: a board takes any call with any arguments. An unsound board is refused first (6); a sound one takes the call.
-// Rests on sound and calls.
+// The service: a board takes any call with any arguments, by value. An unsound board is refused first (6); a sound one is laid out on arrays,
+// takes the call in place, and is taken off them. Rests on sound, laying and taking, on events for the calls.
+
 ghost use mathlib.Core.Path.{_≡_};
-ghost use Rattle.machine.specs.Calls.{offering, receiving, ordering, reading, crashing};
+ghost use mathlib.Core.Bool.{true};
+ghost use Rattle.machine.specs.declared.Answer.the-variants.{Done};
+ghost use Rattle.machine.specs.Soundness.{isSound};
+ghost use Rattle.machine.specs.ByMask.{answeredBy};
+ghost use Rattle.machine.specs.Calls.{refusalOf, offering, receiving, ordering, reading, crashing};
+ghost use Rattle.machine.specs.Runs.{taking};
 use crate::Answer;
 use crate::Board;
 use crate::Outcome;
+use crate::laying::lay_out;
+use crate::taking::board_of;
+use arrays::BYTES;
+use arrays::COUNTS;
+use arrays::SETS;
+use events::perform;
+use sets::POSTINGS;
+use steps::Call;
 use steps::Cut;
 
+// The board that a call leaves, and the number of its refusal; 0 if it was accepted.
+struct Taken {
+    board: Board,
+    why: u8,
+}
+
+// What a call that is not an offer answers, by the number of its refusal.
+fn outcome(taken: Taken) -> Outcome
+    ensures { λ r. ⌜ r ≡ answeredBy Done (taken .board) (taken .why) ⌝ }
+{
+    let board = taken.board;
+    if taken.why != 0 {
+        return Outcome {
+            board: board,
+            answer: Answer::Refused(taken.why),
+        };
+    }
+    Outcome {
+        board: board,
+        answer: Answer::Done,
+    }
+}
+
 impl Board {
+    // A call, of a sound board.
+    fn take(self, call: Call) -> Taken
+        requires { ⌜ isSound self ≡ true ⌝ }
+        ensures { λ r. ⌜ r .board ≡ taking self call .board ⌝ }
+        ensures { λ r. ⌜ r .why ≡ refusalOf (taking self call .answer) ⌝ }
+    {
+        let setup = self.setup;
+        let flight = self.flight;
+        let mut words = [0; SETS];
+        let mut counts = [0; COUNTS];
+        let mut bytes = [0; BYTES];
+        let mut amounts = [0; POSTINGS];
+        let mut masks = flight.masks;
+        let mut good = flight.good;
+        let mut carried = flight.carried;
+        lay_out(&mut words, &mut counts, &mut bytes, &mut amounts, self);
+        let why = perform(
+            &mut words,
+            &mut counts,
+            &mut bytes,
+            &mut amounts,
+            &mut masks,
+            &mut good,
+            &mut carried,
+            setup,
+            call,
+        );
+        let board = board_of(
+            &words,
+            &counts,
+            &bytes,
+            &amounts,
+            masks,
+            good,
+            carried,
+            setup,
+        );
+        Taken {
+            board: board,
+            why: why,
+        }
+    }
+
     // Offer: the posting gets its number; FIRST goes to all n sites.
     pub fn offer(
         self,
@@ -21,7 +101,27 @@ impl Board {
         ensures { λ r. ⌜ r ≡ offering self site kind account other amount cut ⌝ }
     {
         if self.is_sound() {
-            return self.offer_sound(site, kind, account, other, amount, cut);
+            let table = self.table;
+            let m = table.count;
+            let taken = self.take(Call::Offer {
+                site: site,
+                kind: kind,
+                a: account,
+                b: other,
+                amount: amount,
+                cut: cut,
+            });
+            let board = taken.board;
+            if taken.why != 0 {
+                return Outcome {
+                    board: board,
+                    answer: Answer::Refused(taken.why),
+                };
+            }
+            return Outcome {
+                board: board,
+                answer: Answer::Offered(m),
+            };
         }
         Outcome {
             board: self,
@@ -34,7 +134,14 @@ impl Board {
         ensures { λ r. ⌜ r ≡ receiving self form m from to cut ⌝ }
     {
         if self.is_sound() {
-            return self.receive_sound(form, m, from, to, cut);
+            let taken = self.take(Call::Receive {
+                form: form,
+                posting: m,
+                from: from,
+                to: to,
+                cut: cut,
+            });
+            return outcome(taken);
         }
         Outcome {
             board: self,
@@ -47,7 +154,8 @@ impl Board {
         ensures { λ r. ⌜ r ≡ ordering self m ⌝ }
     {
         if self.is_sound() {
-            return self.order_sound(m);
+            let taken = self.take(Call::Order { posting: m });
+            return outcome(taken);
         }
         Outcome {
             board: self,
@@ -60,7 +168,11 @@ impl Board {
         ensures { λ r. ⌜ r ≡ reading self site cut ⌝ }
     {
         if self.is_sound() {
-            return self.read_sound(site, cut);
+            let taken = self.take(Call::Read {
+                site: site,
+                cut: cut,
+            });
+            return outcome(taken);
         }
         Outcome {
             board: self,
@@ -73,7 +185,8 @@ impl Board {
         ensures { λ r. ⌜ r ≡ crashing self site ⌝ }
     {
         if self.is_sound() {
-            return self.crash_sound(site);
+            let taken = self.take(Call::Crash { site: site });
+            return outcome(taken);
         }
         Outcome {
             board: self,

@@ -24,7 +24,7 @@ use site::Site;
 use site::Tally;
 
 // 2 to 5 of a start.
-fn start_refusal(n: u8, f: u8, matrix: u16) -> u8
+pub fn start_refusal(n: u8, f: u8, matrix: u16) -> u8
     ensures { λ r. ⌜ r ≡ firstCause (startCauses n f matrix) ⌝ }
 {
     if n < 3 {

@@ -1,8 +1,6 @@
 -- What the proofs of runfile share, and the evaluated case.
 -- Assumes nothing.
 pub mod Runs
-pub mod InPlace
-pub mod InPlaceCalls
 pub mod Programs
 pub mod Fits
 pub mod Evaluated

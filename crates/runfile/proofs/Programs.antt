@@ -27,6 +27,9 @@ use Rattle.printer.specs.declared.Printed.{Printed}
 use Rattle.decoder.specs.RunFile.{setupOf, headerOk, lengthOk, eventsOk, eventCount, eventLimit, wellFormed, callsOf}
 use Rattle.printer.specs.Output.{refusedLine, printedOf}
 use Rattle.printer.specs.Writing.{slicePrinted, answerPrinted}
+use Rattle.steps.specs.Causes.{firstCause}
+use Rattle.machine.specs.ByMask.{startCauses, refusing, taken}
+use Rattle.machine.proofs.Causes as causes
 use Rattle.runfile.specs.Program.{StaysSound, endedOn, refusals, printedRun, printedFrom, printed}
 
 -- a well-formed file has no more events than the limit
@@ -89,3 +92,21 @@ module _ (input : List ℕ) (refusal : ℕ) (o : Outcome) (t : wellFormed input 
   start-stays z calls =
       let setup = setupOf input in
       rw eo (reached-sound (setup .n) (setup .f) (setup .matrix) (start-accepted (setup .n) (setup .f) (setup .matrix) (ap (λ (x : Outcome). refusalOf (x .answer)) (sym eo) ∙ sym er ∙ z)) calls)
+
+-- the same from the number of the start's refusal
+module _ (input : List ℕ) (setup : Setup) (why : ℕ) (t : wellFormed input ≡ true) (es : setup ≡ setupOf input)
+    (tested : why ≡ firstCause (startCauses (setup .n) (setup .f) (setup .matrix))) where
+  as-started : {o : Outcome} → o ≡ starting (setup .n) (setup .f) (setup .matrix) → o ≡ startWith (setupOf input)
+  as-started e = e ∙ ap startWith es
+
+  pub file-refused : why ≢ 0 → refusedLine why ≡ printed input
+  file-refused d =
+      start-refused input why (refusing blankBoard why) t (as-started (causes.start-refused (setup .n) (setup .f) (setup .matrix) why blankBoard tested d refl)) refl d
+
+  pub file-run : why ≡ 0 → printedRun (freshBoard setup) (callsOf input) ≡ printed input
+  file-run z =
+      start-run input 0 (taken (freshBoard setup)) t (as-started (causes.start-done (setup .n) (setup .f) (setup .matrix) why (freshBoard setup) tested z refl)) refl refl
+
+  pub file-stays : why ≡ 0 → StaysSound (freshBoard setup)
+  file-stays z =
+      start-stays input 0 (taken (freshBoard setup)) t (as-started (causes.start-done (setup .n) (setup .f) (setup .matrix) why (freshBoard setup) tested z refl)) refl refl

@@ -1,4 +1,5 @@
--- Program: the whole. Examples: files by their bytes. InPlace: a step in the loop of events.
+-- Program: the whole. Parts: a part of a file. Examples: files by their bytes.
 -- Rests on decoder, printer, machine, site and books.
 pub mod Program
+pub mod Parts
 pub mod Examples

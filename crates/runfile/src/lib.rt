@@ -1,37 +1,30 @@
 // A run file run and printed, and what is shown of the board that the run ends on.
-// Rests on decoder for the file, on printer for what is printed, on machine, books, posting and sets.
+// Rests on decoder for the file, on printer for what is printed, on machine and events, books, posting and sets.
+ghost use Prim.Native.Nat.{ℕ};
 ghost use mathlib.Core.Path.{_≡_};
+ghost use mathlib.Core.List.{List};
+ghost use Rattle.site.specs.declared.Setup.{Setup};
+ghost use Rattle.arrays.specs.Arrays.{arrays};
+ghost use Rattle.machine.specs.View.{view};
 ghost use Rattle.runfile.specs.Program.{endedOn};
-use books::Records;
-use books::SITES;
-use machine::Board;
-use posting::Record;
+use arrays::BYTES;
+use arrays::COUNTS;
+use arrays::DOWN;
+use machine::taking::log_of;
 use printer::Ended;
-use sets::POSTINGS;
+use shown::figures::records_of;
 
 pub mod run;
 
-// What is shown of a board, of which it is known whether it is quiet.
-pub fn ended_on(board: Board, quiet: bool) -> Ended
-    ensures { λ r. ⌜ r ≡ endedOn board quiet ⌝ }
+// What is shown of a board at work of n sites, of which it is known whether it is quiet.
+pub fn ended_on(counts: &[usize; COUNTS], bytes: &[u8; BYTES], n: u8, quiet: bool) -> Ended
+    ensures { λ r. ⌜ ((setup : Setup) (sets amounts masks good carried : List ℕ) → n ≡ setup .n → r ≡ endedOn (view setup (arrays sets (now (counts .entry)) (now (bytes .entry)) amounts masks good carried)) quiet) ⌝ }
 {
-    let empty = Record {
-        count: 0,
-        numbers: [0; POSTINGS],
-    };
-    let mut records = Records {
-        sites: [empty; SITES],
-    };
-    for p in 0..SITES {
-        let site = board.sites[p];
-        let delivered = site.delivered;
-        records.sites[p] = delivered;
-    }
-    let setup = board.setup;
-    let log = board.log;
+    let records = records_of(counts, bytes);
+    let log = log_of(counts, bytes);
     Ended {
-        n: setup.n,
-        down: board.down,
+        n,
+        down: bytes[DOWN],
         records,
         log,
         quiet,

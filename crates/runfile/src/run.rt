@@ -1,48 +1,39 @@
 // A run file run and printed: from the board of its start, each event is taken by the board that the one before it left.
-// Rests on file and print, on machine for the calls.
+// Rests on decoder for the file, on printer for what is printed, on events for the calls, in place on the arrays of a board at work.
 ghost use Prim.Native.Nat.{_≤_};
 ghost use mathlib.Core.Path.{_≡_};
-ghost use lib.ListN.{length, take};
+ghost use mathlib.Core.List.{_++_};
+ghost use lib.ListN.{length, take, drop};
+ghost use Rattle.arrays.specs.Arrays.{arrays};
+ghost use Rattle.machine.specs.Boards.{freshBoard};
 ghost use Rattle.machine.specs.Calls.{refusalOf};
 ghost use Rattle.machine.specs.Runs.{running};
+ghost use Rattle.machine.specs.View.{view, Right};
 ghost use Rattle.decoder.specs.RunFile.{eventLimit, eventCount, callsOf};
 ghost use Rattle.runfile.specs.Program.{StaysSound, refusals, printedRun, printed};
+ghost use Rattle.runfile.specs.Parts.{callsFrom};
 ghost use Rattle.printer.specs.Writing.{slicePrinted, answerPrinted};
 use crate::ended_on;
+use arrays::BYTES;
+use arrays::COUNTS;
+use arrays::SETS;
 use decoder::file::EVENTS;
 use decoder::file::call_at;
 use decoder::file::event_count;
 use decoder::file::setup_of;
 use decoder::file::well_formed;
+use events::perform;
+use flight::LOADS;
+use flight::MASKS;
+use flight::PAIRS;
 use machine::Answer;
-use machine::Board;
-use masks::every_site;
-use masks::with_site;
-use posting::Posting;
+use opening::start_refusal;
 use printer::Printed;
 use printer::print::print_refused;
 use printer::print::print_run;
-use shown::quiet::is_quiet;
-use site::Sends;
-use steps::Call;
-use steps::cuts::down_after;
-use steps::cuts::entry_to;
-use steps::cuts::settle_to;
-use steps::cuts::sites_to;
-use steps::entered;
-use steps::enters;
-use steps::passing::pass_carried;
-use steps::passing::pass_good;
-use steps::passing::pass_masks;
-use steps::receipt;
-use steps::refusals::cut_refusal;
-use steps::refusals::message_refusal;
-use steps::refusals::offer_refusal;
-use steps::refusals::site_refusal;
-use steps::with_row;
-
-// The form of the messages that an offer sends, as flight counts it.
-const FIRST: usize = 0;
+use sets::POSTINGS;
+use shown::quiet::is_quiet_at;
+use site::Setup;
 
 // The number of a refusal; 0 of what is accepted.
 pub fn refusal_of(answer: Answer) -> u8
@@ -61,226 +52,74 @@ pub fn refusal_of(answer: Answer) -> u8
     }
 }
 
-// The events of a file, run from a board: the board after them, and in `numbers` the refusal number of each answer. The board stays where it
-// is: an event stores only the parts that it changes, since to hand the board over costs more than most events do.
-pub fn run_events(board: Board, input: &[u8], numbers: &mut [u8]) -> Board
-    requires { ⌜ StaysSound board × (eventCount (now input) ≤ length (now numbers)) ⌝ }
-    ensures { λ r. ⌜ r ≡ running board (callsOf (now (input .entry))) ⌝ }
-    ensures { λ _. ⌜ take (eventCount (now (input .entry))) (now (numbers .exit)) ≡ refusals board (callsOf (now (input .entry))) ⌝ }
+// The events of a part of a file, from event `first` on and before event `last`, taken by a board at work; in `numbers`, at the place of each,
+// the refusal number of its answer.
+pub fn run_events(
+    words: &mut [u64; SETS],
+    counts: &mut [usize; COUNTS],
+    bytes: &mut [u8; BYTES],
+    amounts: &mut [u32; POSTINGS],
+    masks: &mut [u8; MASKS],
+    good: &mut [u8; PAIRS],
+    carried: &mut [u64; LOADS],
+    setup: Setup,
+    input: &[u8],
+    first: usize,
+    last: usize,
+    numbers: &mut [u8],
+)
+    requires { ⌜ Right (arrays (now words) (now counts) (now bytes) (now amounts) (now masks) (now good) (now carried)) × StaysSound (view setup (arrays (now words) (now counts) (now bytes) (now amounts) (now masks) (now good) (now carried))) × (first ≤ last) × (last ≤ length (now numbers)) ⌝ }
+    ensures { λ _. ⌜ view setup (arrays (now (words .exit)) (now (counts .exit)) (now (bytes .exit)) (now (amounts .exit)) (now (masks .exit)) (now (good .exit)) (now (carried .exit))) ≡ running (view setup (arrays (now (words .entry)) (now (counts .entry)) (now (bytes .entry)) (now (amounts .entry)) (now (masks .entry)) (now (good .entry)) (now (carried .entry)))) (callsFrom (now (input .entry)) first last) ⌝ }
+    ensures { λ _. ⌜ Right (arrays (now (words .exit)) (now (counts .exit)) (now (bytes .exit)) (now (amounts .exit)) (now (masks .exit)) (now (good .exit)) (now (carried .exit))) ⌝ }
+    ensures { λ _. ⌜ now (numbers .exit) ≡ take first (now (numbers .entry)) ++ (refusals (view setup (arrays (now (words .entry)) (now (counts .entry)) (now (bytes .entry)) (now (amounts .entry)) (now (masks .entry)) (now (good .entry)) (now (carried .entry)))) (callsFrom (now (input .entry)) first last) ++ drop last (now (numbers .entry))) ⌝ }
 {
-    let count = event_count(input);
-    let mut d = board;
-    for k in 0..count {
+    for k in first..last {
         let call = call_at(input, k);
-        match call {
-            Call::Offer {
-                site,
-                kind,
-                a,
-                b,
-                amount,
-                cut,
-            } => {
-                let setup = d.setup;
-                let why = site_refusal(setup.n, d.down, site);
-                if why != 0 {
-                    numbers[k] = why;
-                    continue;
-                }
-                let posting = Posting {
-                    owner: site as u8,
-                    kind: kind,
-                    a: a,
-                    b: b,
-                    amount: amount,
-                };
-                let table = d.table;
-                let m = table.count;
-                let no = offer_refusal(posting, m);
-                if no != 0 {
-                    numbers[k] = no;
-                    continue;
-                }
-                let all = every_site(setup.n);
-                let late = cut_refusal(setup.f, d.down, all, cut);
-                if late != 0 {
-                    numbers[k] = late;
-                    continue;
-                }
-                // an offer changes nothing of its site and carries nothing: FIRST goes out, and the posting gets its row
-                let receivers = sites_to(all, cut);
-                flight::send(&mut d.flight.masks, FIRST, m, site, receivers);
-                let more = with_row(table, posting);
-                d.table = more;
-                let down = down_after(d.down, site as u8, cut);
-                d.down = down;
-                numbers[k] = 0;
-                continue;
-            }
-            Call::Receive {
-                form,
-                posting,
-                from,
-                to,
-                cut,
-            } => {
-                let setup = d.setup;
-                let why = message_refusal(setup.n, d.down, from, to);
-                if why != 0 {
-                    numbers[k] = why;
-                    continue;
-                }
-                if flight::in_flight(&d.flight.masks, form, posting, from, to) {
-                    let good = flight::is_good(&d.flight.good, posting, from, to);
-                    let load = flight::carried_set(&d.flight.carried, posting, from);
-                    let own = d.sites[to];
-                    let tally = d.tallies[posting];
-                    let table = d.table;
-                    let whole = receipt(
-                        setup,
-                        table,
-                        own,
-                        tally,
-                        form,
-                        posting,
-                        from as u8,
-                        to as u8,
-                        good,
-                        load,
-                    );
-                    let all = whole.sends;
-                    let late = cut_refusal(setup.f, d.down, all.to, cut);
-                    if late != 0 {
-                        numbers[k] = late;
-                        continue;
-                    }
-                    let reached = sites_to(all.to, cut);
-                    let carried = all.carried;
-                    let sends = Sends {
-                        form: all.form,
-                        to: reached,
-                        good: all.good,
-                        carried: carried,
-                    };
-                    let sent = all.form as usize;
-                    let noted = whole.tally;
-                    let next = whole.site;
-                    let site = settle_to(next, whole.delivers, posting, cut);
-                    pass_masks(&mut d.flight.masks, form, posting, from, to, sent, sends.to);
-                    pass_good(
-                        &mut d.flight.good,
-                        form,
-                        posting,
-                        from,
-                        to,
-                        sent,
-                        sends.to,
-                        sends.good,
-                    );
-                    pass_carried(
-                        &mut d.flight.carried,
-                        form,
-                        posting,
-                        from,
-                        to,
-                        sent,
-                        sends.to,
-                        carried,
-                    );
-                    d.sites[to] = site;
-                    d.tallies[posting] = noted;
-                    let so = enters(sends);
-                    let pool = d.pool;
-                    let more = pool.with_if(posting, so);
-                    d.pool = more;
-                    let old = d.entries[posting];
-                    let entry = entered(old, sends);
-                    d.entries[posting] = entry;
-                    let down = down_after(d.down, to as u8, cut);
-                    d.down = down;
-                    numbers[k] = 0;
-                    continue;
-                }
-                numbers[k] = 11;
-                continue;
-            }
-            Call::Order { posting } => {
-                let pool = d.pool;
-                if pool.has(posting) {
-                    let less = pool.without(posting);
-                    d.pool = less;
-                    let log = d.log;
-                    let longer = log.append(posting);
-                    d.log = longer;
-                    numbers[k] = 0;
-                    continue;
-                }
-                numbers[k] = 12;
-                continue;
-            }
-            Call::Read { site, cut } => {
-                let setup = d.setup;
-                let why = site_refusal(setup.n, d.down, site);
-                if why != 0 {
-                    numbers[k] = why;
-                    continue;
-                }
-                let own = d.sites[site];
-                let place = own.place;
-                let log = d.log;
-                if log.count <= place {
-                    numbers[k] = 13;
-                    continue;
-                }
-                let late = cut_refusal(setup.f, d.down, 0, cut);
-                if late != 0 {
-                    numbers[k] = late;
-                    continue;
-                }
-                let m = log.numbers[place] as usize;
-                let carried = d.entries[m];
-                let next = own.on_entry();
-                let after = entry_to(next, carried, m, cut);
-                d.sites[site] = after;
-                let down = down_after(d.down, site as u8, cut);
-                d.down = down;
-                numbers[k] = 0;
-                continue;
-            }
-            Call::Crash { site } => {
-                let setup = d.setup;
-                let why = site_refusal(setup.n, d.down, site);
-                if why != 0 {
-                    numbers[k] = why;
-                    continue;
-                }
-                let crashes = setup.f as u32;
-                let lost = u8::count_ones(d.down);
-                if crashes <= lost {
-                    numbers[k] = 14;
-                    continue;
-                }
-                let down = with_site(d.down, site as u8);
-                d.down = down;
-                numbers[k] = 0;
-                continue;
-            }
-        }
+        numbers[k] = perform(
+            words,
+            counts,
+            bytes,
+            amounts,
+            masks,
+            good,
+            carried,
+            setup,
+            call,
+        );
     }
-    d
 }
 
-// The events of a file from a board, printed.
-fn run_from(board: Board, input: &[u8], out: &mut [u8]) -> Printed
-    requires { ⌜ StaysSound board × (eventCount (now input) ≤ eventLimit) ⌝ }
-    ensures { λ r. ⌜ r ≡ answerPrinted (printedRun board (callsOf (now (input .entry)))) (now (out .entry)) ⌝ }
-    ensures { λ _. ⌜ now (out .exit) ≡ slicePrinted (printedRun board (callsOf (now (input .entry)))) (now (out .entry)) ⌝ }
+// The events of a file from the board of its start, printed.
+fn run_from(input: &[u8], setup: Setup, out: &mut [u8]) -> Printed
+    requires { ⌜ StaysSound (freshBoard setup) × (eventCount (now input) ≤ eventLimit) ⌝ }
+    ensures { λ r. ⌜ r ≡ answerPrinted (printedRun (freshBoard setup) (callsOf (now (input .entry)))) (now (out .entry)) ⌝ }
+    ensures { λ _. ⌜ now (out .exit) ≡ slicePrinted (printedRun (freshBoard setup) (callsOf (now (input .entry)))) (now (out .entry)) ⌝ }
 {
+    let mut words = [0; SETS];
+    let mut counts = [0; COUNTS];
+    let mut bytes = [0; BYTES];
+    let mut amounts = [0; POSTINGS];
+    let mut masks = [0; MASKS];
+    let mut good = [0; PAIRS];
+    let mut carried = [0; LOADS];
     let mut numbers = [0; EVENTS];
-    let last = run_events(board, input, &mut numbers);
-    let quiet = is_quiet(last);
-    let ended = ended_on(last, quiet);
     let count = event_count(input);
+    run_events(
+        &mut words,
+        &mut counts,
+        &mut bytes,
+        &mut amounts,
+        &mut masks,
+        &mut good,
+        &mut carried,
+        setup,
+        input,
+        0,
+        count,
+        &mut numbers,
+    );
+    let quiet = is_quiet_at(&words, &counts, &bytes, &masks, setup);
+    let ended = ended_on(&counts, &bytes, setup.n, quiet);
     print_run(&numbers[..count], ended, out)
 }
 
@@ -291,14 +130,11 @@ pub fn run_file(input: &[u8], out: &mut [u8]) -> Printed
 {
     if well_formed(input) {
         let setup = setup_of(input);
-        let start = opening::start(setup.n, setup.f, setup.matrix);
-        let answer = start.answer;
-        let refusal = refusal_of(answer);
+        let refusal = start_refusal(setup.n, setup.f, setup.matrix);
         if refusal != 0 {
             return print_refused(refusal, out);
         }
-        let board = start.board;
-        return run_from(board, input, out);
+        return run_from(input, setup, out);
     }
     print_refused(1, out)
 }

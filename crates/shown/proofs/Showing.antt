@@ -4,7 +4,7 @@ use Prim.Native.Nat.{ℕ, zero, suc, _+_, _*_, _<_, _≤_}
 use mathlib.Core.Path.{_≡_, refl, sym, _∙_}
 use mathlib.Core.Logic.{inl, inr, _≢_}
 use mathlib.Core.Bool.{true}
-use mathlib.Core.List.{List, _++_, map}
+use mathlib.Core.List.{List, [], _∷_, _++_, map, map-append}
 use native.Mathlib.Numerals.{add-one}
 use native.Mathlib.Omega.{arith}
 use lib.Dec.{leb}
@@ -14,16 +14,20 @@ use lib.Seq.{take-suc, take-suc-set, take-all}
 use borrow.Author.Tests.{lt-leb, lt-ltb, le-ltb}
 use Rattle.sets.specs.Truth.{test}
 use Rattle.sets.specs.MaskLaws.{has-bit-zero}
+use Rattle.posting.specs.declared.Table.{Table}
 use Rattle.posting.specs.declared.Record.{Record}
 use Rattle.posting.specs.Kinds.{accounts}
 use Rattle.site.specs.declared.Site.{Site}
-use Rattle.site.specs.Sites.{noSite}
+use Rattle.site.specs.declared.Setup.{Setup}
+use Rattle.site.specs.Sites.{sites, noSite}
+use Rattle.arrays.specs.Arrays.{Arrays, arrays}
 use Rattle.flight.specs.Flights.{cells}
 use Rattle.books.specs.declared.Sheet.{Sheet}
 use Rattle.books.specs.declared.Records.{Records}
-use Rattle.books.specs.Books.{blank, books, numbers, numbersOfSites, sheetOf}
+use Rattle.books.specs.Books.{tabulate, blank, books, numbers, numbersOfSites, sheetOf}
 use Rattle.books.specs.Books as of-books
 use Rattle.books.specs.Bounds.{Postable}
+use Rattle.books.proofs.Lists.{getD-tabulate}
 use Rattle.books.proofs.Blocks.{length-numbers}
 use Rattle.books.proofs.Sheets.{blank-figures}
 use Rattle.machine.specs.declared.Board.{Board}
@@ -32,7 +36,11 @@ use Rattle.machine.specs.Boards.{siteAt}
 use Rattle.machine.specs.Soundness.{isSound}
 use Rattle.steps.specs.Causes.{firstCause, siteCauses}
 use Rattle.machine.specs.Figures.{recordOf, figuresOf, figuresOfAll, shown, showing, showingAll}
+use Rattle.machine.specs.View.{siteOf, rowOf, tableOf, view}
+use Rattle.machine.specs.View as view-of
 use Rattle.machine.proofs.SoundTest.{sound-facts}
+use Rattle.machine.proofs.Local.{site-at, site-record}
+use Rattle.machine.proofs.ByteStores.{table-same}
 
 -- ---- what may be posted
 
@@ -128,3 +136,45 @@ module _ (b : Board) (sound : isSound b ≡ true) (out : List ℤ) where
   all-shown h opening eo records copy left e =
       rw (sound, le-ltb (length out) (64 * b .setup .n) h, length-all b (b .setup .n))
       (refl, e ∙ rw (eo, blank-figures, all-figures b records copy (b .setup .n)))
+
+-- ---- a board at work
+
+map-table : {A B : Type 0} (g : A → B) (n : ℕ) (f : ℕ → A) → map g (tabulate n f) ≡ tabulate n (λ q. g (f q))
+unfolding tabulate
+map-table g zero f = refl
+map-table g (suc n) f = map-append g (tabulate n f) (f n ∷ []) ∙ rw (map-table g n f)
+
+module _ (setup : Setup) (a : Arrays) (sound : isSound (view setup a) ≡ true) (table : Table) (records : Records)
+    (et : table ≡ tableOf a) (er : records .sites ≡ tabulate sites (view-of.recordOf a)) (out : List ℤ) where
+  copied-at : records .sites ≡ map delivered (view setup a .sites)
+  unfolding view
+  copied-at =
+      er ∙ table-same sites (λ q. delivered (siteOf a q)) (view-of.recordOf a) (λ q h. sym (site-record a q)) ∙ sym (map-table delivered sites (siteOf a))
+
+  pub all-shown-at :
+      64 * setup .n ≤ length out → (opening : Sheet) → opening ≡ sheetOf blank → (left : List ℤ)
+      → left ≡ numbersOfSites (setup .n) (of-books.figuresOf opening) table records ++ drop (64 * setup .n) out
+      → (Done ≡ showingAll (view setup a) out .answer) × (left ≡ showingAll (view setup a) out .slice)
+  unfolding view
+  all-shown-at h opening eo left e = all-shown (view setup a) sound out h opening eo records copied-at left (e ∙ rw et)
+
+-- what the books of a board at work need of its soundness
+pub may-post-at :
+    (setup : Setup) (a : Arrays) → length (a .masks) ≡ cells → isSound (view setup a) ≡ true → setup .n ≤ sites → (p : ℕ) → p < setup .n
+    → Postable (tableOf (arrays [] (a .counts) (a .bytes) (a .amounts) [] [] [])) (view-of.recordOf (arrays [] (a .counts) (a .bytes) (a .amounts) [] [] []) p)
+unfolding view tableOf rowOf view-of.recordOf
+may-post-at setup a long sound few p h =
+    let there : p < sites = omega arith in
+    rw (sym (site-record a p), sym (site-at setup a p there)) (site-may-post (view setup a) long sound p h)
+
+-- the same of the table and records taken off
+pub post-at :
+    (a : Arrays) (table : Table) (records : Records) → table ≡ tableOf a → records .sites ≡ tabulate sites (view-of.recordOf a) → (p : ℕ) → p < sites
+    → Postable (tableOf a) (view-of.recordOf a p) → Postable table (of-books.recordOf records p)
+post-at a table records et er p h k = rw (et, er, getD-tabulate sites (view-of.recordOf a) of-books.noRecord p h) k
+
+pub no-room-at :
+    (setup : Setup) (a : Arrays) → isSound (view setup a) ≡ true → (out : List ℤ) → length out < 64 * setup .n
+    → (Refused 16 ≡ showingAll (view setup a) out .answer) × (out ≡ showingAll (view setup a) out .slice)
+unfolding view
+no-room-at setup a sound out h = no-room-all (view setup a) sound out h

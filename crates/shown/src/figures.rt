@@ -1,16 +1,28 @@
 // The books of a board in a lent slice: of one site, and of all sites, up or down.
 // Rests on machine, steps, books, posting and site.
+ghost use Prim.Native.Nat.{ℕ, _<_, _≤_};
 ghost use mathlib.Core.Path.{_≡_};
 ghost use mathlib.Core.Bool.{true};
-ghost use mathlib.Core.List.{map};
+ghost use mathlib.Core.List.{List, [], map};
+ghost use Rattle.books.specs.Books.{tabulate};
+ghost use Rattle.books.specs.Bounds.{Postable};
 ghost use Rattle.site.specs.declared.Site.{Site};
+ghost use Rattle.site.specs.Sites.{sites};
+ghost use Rattle.arrays.specs.Arrays.{arrays};
+ghost use Rattle.machine.specs.View.{recordOf, tableOf, view};
 ghost use Rattle.machine.specs.Soundness.{isSound};
 ghost use Rattle.machine.specs.Figures.{showing, showingAll};
+use arrays::BYTES;
+use arrays::COUNTS;
 use books::Records;
 use machine::Answer;
 use machine::Board;
+use machine::taking::record_of;
+use machine::taking::table_of;
 use posting::Record;
+use sets::POSTINGS;
 use site::SITES;
+use site::Setup;
 use steps::refusals::site_refusal;
 
 // How many numbers the books of a site have.
@@ -68,6 +80,43 @@ pub fn books_all_sound(board: Board, out: &mut [i64]) -> Answer
     }
     let table = board.table;
     let records = records(board);
+    let opening = books::blank();
+    books::books_all(table, records, n, opening, out);
+    Answer::Done
+}
+
+// The records of the sites of a board at work, by number.
+pub fn records_of(counts: &[usize; COUNTS], bytes: &[u8; BYTES]) -> Records
+    ensures { λ r. ⌜ ((sets amounts masks good carried : List ℕ) → r .sites ≡ tabulate sites (recordOf (arrays sets (now (counts .entry)) (now (bytes .entry)) amounts masks good carried))) ⌝ }
+{
+    let first = record_of(counts, bytes, 0);
+    let mut records = Records {
+        sites: [first; SITES],
+    };
+    for p in 0..SITES {
+        let delivered = record_of(counts, bytes, p);
+        records.sites[p] = delivered;
+    }
+    records
+}
+
+// The books of all sites, of a sound board at work: its table and records are all that they need.
+pub fn books_all_at(
+    counts: &[usize; COUNTS],
+    bytes: &[u8; BYTES],
+    amounts: &[u32; POSTINGS],
+    setup: Setup,
+    out: &mut [i64],
+) -> Answer
+    requires { ⌜ (setup .n ≤ sites) × ((p : ℕ) → p < setup .n → Postable (tableOf (arrays [] (now counts) (now bytes) (now amounts) [] [] [])) (recordOf (arrays [] (now counts) (now bytes) (now amounts) [] [] []) p)) ⌝ }
+    ensures { λ r. ⌜ ((sets masks good carried : List ℕ) → isSound (view setup (arrays sets (now (counts .entry)) (now (bytes .entry)) (now (amounts .entry)) masks good carried)) ≡ true → (r ≡ showingAll (view setup (arrays sets (now (counts .entry)) (now (bytes .entry)) (now (amounts .entry)) masks good carried)) (now (out .entry)) .answer) × (now (out .exit) ≡ showingAll (view setup (arrays sets (now (counts .entry)) (now (bytes .entry)) (now (amounts .entry)) masks good carried)) (now (out .entry)) .slice)) ⌝ }
+{
+    let n = setup.n as usize;
+    if out.len() < FIGURES * n {
+        return Answer::Refused(16);
+    }
+    let table = table_of(counts, bytes, amounts);
+    let records = records_of(counts, bytes);
     let opening = books::blank();
     books::books_all(table, records, n, opening, out);
     Answer::Done

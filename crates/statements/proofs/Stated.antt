@@ -1,15 +1,27 @@
 -- Laws of the whole program: a drain leaves a board sound, the figures of all sites, and what is stated of each kind of input.
 -- Rests on Statement, on drain, machine and runfile. Assumes nothing.
 use Prim.Native.Nat.{ℕ, zero, suc, _+_, _*_, _≤_}
-use mathlib.Core.Path.{_≡_, refl, sym, ap}
-use mathlib.Core.Logic.{_⊎_, inl, inr, _≢_}
+use mathlib.Core.Path.{_≡_, refl, sym, ap, _∙_}
+use mathlib.Core.Logic.{inl, inr, _≢_}
 use mathlib.Core.Bool.{true, false}
 use mathlib.Core.List.{List, [], _∷_, _++_}
 use native.Mathlib.Omega.{arith}
 use lib.IntN.{ℤ}
 use lib.ListN.{length, take, drop}
 use borrow.Author.Tests.{eq-eqb, ne-eqb, le-ltb}
+use Rattle.sets.specs.Truth.{never}
+use Rattle.site.specs.declared.Setup.{Setup}
+use Rattle.steps.specs.Causes.{firstCause}
+use Rattle.arrays.specs.Layout.{downAt}
+use Rattle.arrays.specs.Arrays.{Arrays, byte}
+use Rattle.machine.specs.declared.Answer.{Answer}
 use Rattle.machine.specs.declared.Board.{Board}
+use Rattle.machine.specs.Boards.{freshBoard, blankBoard}
+use Rattle.machine.specs.View.{view}
+use Rattle.machine.specs.ByMask.{startCauses, refusing, taken}
+use Rattle.machine.proofs.Causes.{start-refused, start-done}
+use Rattle.invariants.proofs.Reached.{GoodIf}
+use Rattle.invariants.proofs.Start.{reached-good}
 use Rattle.steps.specs.declared.Call.{Call}
 use Rattle.machine.specs.declared.Outcome.{Outcome}
 use Rattle.machine.specs.Soundness.{isSound}
@@ -17,20 +29,16 @@ use Rattle.machine.specs.Calls.{refusalOf}
 use Rattle.machine.specs.Runs.{taking, running}
 use Rattle.shown.proofs.Showing.{length-all}
 use Rattle.machine.specs.Figures.{figuresOfAll, shown, showingAll}
-use Rattle.drain.specs.declared.Drained.{Drained}
-use Rattle.drain.specs.Drain.{Next, none, event, nextEvent, draining, drained}
-use Rattle.drain.proofs.Loop.{draining-none, draining-event}
+use Rattle.drain.specs.Drain.{nextEvent, draining, drained}
+use Rattle.drain.proofs.Loop.{next-cases, draining-none, draining-event}
 use Rattle.decoder.specs.RunFile.{setupOf, wellFormed, callsOf}
 use Rattle.printer.specs.Output.{refusedLine}
+use Rattle.figures_table.specs.Table.{statementText}
 use Rattle.runfile.specs.Program.{StaysSound}
-use Rattle.runfile.proofs.Programs.{startWith}
-use Rattle.statements.specs.Statement.{statementOf, drainLimit, statedRun, statedFrom, stated}
+use Rattle.runfile.proofs.Programs.{startWith, start-accepted}
+use Rattle.statements.specs.Statement.{statementOf, settledRun, drainLimit, statedRun, statedFrom, stated}
 
 -- ---- a drain
-
-next-cases : (x : Next) → (x ≡ none) ⊎ ((c : Call) × (x ≡ event c))
-next-cases none = inl refl
-next-cases (event c) = inr (c, refl)
 
 stays-after : (b : Board) (c : Call) → StaysSound b → StaysSound (taking b c .board)
 unfolding running
@@ -53,18 +61,43 @@ unfolding running
 run-stays b [] h = h
 run-stays b (c ∷ calls) h = run-stays (taking b c .board) calls (stays-after b c h)
 
--- the board after the calls, and what the drain from it hands back
-module _ (b last : Board) (calls : List Call) (h : StaysSound b) (e : last ≡ running b calls) where
-  pub last-sound : isSound last ≡ true
-  last-sound = rw e (h calls)
+-- ---- a run from the board of a start, and a drain
 
-  -- a drain with any limit leaves the board sound
-  pub quiet-sound : (limit : ℕ) (d : Drained) → d ≡ draining limit limit 0 last → isSound (d .board) ≡ true
-  quiet-sound limit d ed = rw (ed, e) (drain-stays limit limit 0 (running b calls) (run-stays b calls h))
+module _ (setup : Setup) (calls : List Call) (limit : ℕ) (stays : StaysSound (freshBoard setup)) where
+  pub settled-sound : isSound (settledRun setup calls limit .board) ≡ true
+  unfolding settledRun
+  settled-sound = drain-stays limit limit 0 (running (freshBoard setup) calls) (run-stays (freshBoard setup) calls stays)
 
-  pub run-stated : (d : Drained) → d ≡ draining drainLimit drainLimit 0 last → statementOf (d .board) ≡ statedRun b calls
-  unfolding statedRun drained
-  run-stated d ed = rw (ed, e, h calls)
+pub settled-stated : (setup : Setup) (calls : List Call) → StaysSound (freshBoard setup) → statementOf (settledRun setup calls drainLimit .board) ≡ statedRun (freshBoard setup) calls
+unfolding settledRun statedRun drained
+settled-stated setup calls stays = rw (stays calls)
+
+-- the arrays that the run and the drain leave, of the board that they show
+module _ (setup : Setup) (calls : List Call) (limit : ℕ) (a d : Arrays) (run : view setup a ≡ running (freshBoard setup) calls)
+    (drain : view setup d ≡ draining limit limit 0 (view setup a) .board) where
+  pub settled-view : view setup d ≡ settledRun setup calls limit .board
+  unfolding settledRun
+  settled-view = drain ∙ ap (λ (b : Board). draining limit limit 0 b .board) run
+
+  pub settled-count : (count : ℕ) → count ≡ draining limit limit 0 (view setup a) .count → count ≡ settledRun setup calls limit .count
+  unfolding settledRun
+  settled-count count e = e ∙ ap (λ (b : Board). draining limit limit 0 b .count) run
+
+  pub settled-down : byte (d .bytes) downAt ≡ settledRun setup calls limit .board .down
+  unfolding view
+  settled-down = ap (λ (b : Board). b .down) settled-view
+
+  pub settled-setup : settledRun setup calls limit .board .setup ≡ setup
+  unfolding view
+  settled-setup = ap (λ (b : Board). b .setup) (sym settled-view)
+
+  pub settled-books :
+      StaysSound (freshBoard setup) → (answer : Answer) (before after : List ℤ)
+      → (isSound (view setup d) ≡ true → (answer ≡ showingAll (view setup d) before .answer) × (after ≡ showingAll (view setup d) before .slice))
+      → (answer ≡ showingAll (settledRun setup calls limit .board) before .answer) × (after ≡ showingAll (settledRun setup calls limit .board) before .slice)
+  settled-books stays answer before after h =
+      let (e, f) = h (rw settled-view (settled-sound setup calls limit stays)) in
+      (rw settled-view at e, rw settled-view at f)
 
 -- ---- the figures
 
@@ -83,17 +116,50 @@ all-filled b slice left count sound e ec room =
     let h : 64 * n ≤ length slice = omega arith in
     rw (e, sound, le-ltb (length slice) (64 * n) h) (take-first (figuresOfAll b n) (drop (length (figuresOfAll b n)) slice) count (omega (arith, length-all b n)))
 
+-- the text of the figures that a run and a drain leave
+pub settled-text :
+    (setup : Setup) (calls : List Call) → StaysSound (freshBoard setup) → (slice left : List ℤ) (count down : ℕ)
+    → settledRun setup calls drainLimit .board .setup ≡ setup → left ≡ showingAll (settledRun setup calls drainLimit .board) slice .slice
+    → down ≡ settledRun setup calls drainLimit .board .down → count ≡ 64 * setup .n → count ≤ length slice
+    → statementText (take count left) (setup .n) down ≡ statedRun (freshBoard setup) calls
+unfolding statementOf
+settled-text setup calls stays slice left count down es el ed ec room =
+    let b = settledRun setup calls drainLimit .board in
+    let n : b .setup .n ≡ setup .n = ap (λ (s : Setup). s .n) es in
+    let filled = all-filled b slice left count (settled-sound setup calls drainLimit stays) el (rw n ec) room in
+    ap (λ (l : List ℤ). statementText l (setup .n) down) filled
+    ∙ ap (λ (d : ℕ). statementText (figuresOfAll b (b .setup .n)) (setup .n) d) ed
+    ∙ ap (λ (k : ℕ). statementText (figuresOfAll b (b .setup .n)) k (b .down)) (sym n)
+    ∙ settled-stated setup calls stays
+
 -- ---- inputs
 
 pub malformed-stated : (input : List ℕ) → wellFormed input ≡ false → refusedLine 1 ≡ stated input
 unfolding stated
 malformed-stated input f = rw f
 
-module _ (input : List ℕ) (refusal : ℕ) (o : Outcome) (t : wellFormed input ≡ true) (eo : o ≡ startWith (setupOf input)) (er : refusal ≡ refusalOf (o .answer)) where
-  pub refused-stated : refusal ≢ 0 → refusedLine refusal ≡ stated input
-  unfolding stated statedFrom
-  refused-stated d = rw (t, sym eo, sym er, ne-eqb refusal 0 d)
+-- the start of a well-formed file, from the number of its refusal
+module _ (input : List ℕ) (setup : Setup) (why : ℕ) (t : wellFormed input ≡ true) (es : setup ≡ setupOf input)
+    (tested : why ≡ firstCause (startCauses (setup .n) (setup .f) (setup .matrix))) where
+  pub refused : why ≢ 0 → refusing blankBoard why ≡ startWith (setupOf input)
+  refused d = start-refused (setup .n) (setup .f) (setup .matrix) why blankBoard tested d refl ∙ ap startWith es
 
-  pub started-stated : refusal ≡ 0 → statedRun (o .board) (callsOf input) ≡ stated input
+  pub started : why ≡ 0 → taken (freshBoard setup) ≡ startWith (setupOf input)
+  started z = start-done (setup .n) (setup .f) (setup .matrix) why (freshBoard setup) tested z refl ∙ ap startWith es
+
+  pub refused-stated : why ≢ 0 → refusedLine why ≡ stated input
   unfolding stated statedFrom
-  started-stated z = rw (t, sym eo, sym er, eq-eqb refusal 0 z)
+  refused-stated d = rw (t, sym (refused d), ne-eqb why 0 d)
+
+  pub started-stated : why ≡ 0 → statedRun (freshBoard setup) (callsOf input) ≡ stated input
+  unfolding stated statedFrom
+  started-stated z = rw (t, sym (started z))
+
+  pub started-good : why ≡ 0 → GoodIf false (freshBoard setup)
+  unfolding running
+  started-good z =
+      let s = setupOf input in
+      let e = started z in
+      let g = reached-good (s .n) (s .f) (s .matrix) (start-accepted (s .n) (s .f) (s .matrix) (ap (λ (o : Outcome). refusalOf (o .answer)) (sym e))) [] in
+      let b = ap (λ (o : Outcome). o .board) e in
+      rw b (record { shape = g .shape; sound = g .sound; blank = λ f. absurd (never f refl) })

@@ -1,25 +1,38 @@
-// The program `statement`: a run file is run, the board drained to quiet, and the books of every site printed.
+// The program `statement`: a run file is run, the board drained to quiet, and the books of every site printed; and the same without printing.
 // Rests on figures_table for the lines, on decoder and runfile for the file and its run, on printer for what is printed, on drain and machine.
 ghost use Prim.Native.Nat.{_≤_};
 ghost use mathlib.Core.Path.{_≡_};
-ghost use mathlib.Core.Bool.{true};
-ghost use Rattle.machine.specs.Soundness.{isSound};
+ghost use mathlib.Core.Bool.{false};
+ghost use Rattle.machine.specs.Boards.{freshBoard};
+ghost use Rattle.machine.specs.Calls.{refusalOf};
+ghost use Rattle.machine.specs.Figures.{showingAll};
+ghost use Rattle.invariants.proofs.Reached.{GoodIf};
 ghost use Rattle.decoder.specs.RunFile.{eventLimit, eventCount, callsOf};
 ghost use Rattle.runfile.specs.Program.{StaysSound};
 ghost use Rattle.printer.specs.Writing.{slicePrinted, answerPrinted};
-ghost use Rattle.statements.specs.Statement.{statementOf, statedRun, stated};
+ghost use Rattle.statements.specs.Statement.{settledRun, statedRun, stated};
+use arrays::BYTES;
+use arrays::COUNTS;
+use arrays::DOWN;
+use arrays::SETS;
 use decoder::file::EVENTS;
+use decoder::file::event_count;
 use decoder::file::setup_of;
 use decoder::file::well_formed;
-use drain::drain_sound;
+use drain::drain_events;
 use figures_table::lines::print_statement;
-use machine::Board;
+use flight::LOADS;
+use flight::MASKS;
+use flight::PAIRS;
+use opening::start_refusal;
 use printer::Printed;
 use printer::print::print_refused;
 use printer::print::wide;
 use runfile::run::refusal_of;
 use runfile::run::run_events;
-use shown::figures::books_all_sound;
+use sets::POSTINGS;
+use shown::figures::books_all_at;
+use site::Setup;
 
 // How many numbers the books of a site have, and those of all sites that there can be.
 const FIGURES: usize = 64;
@@ -29,32 +42,76 @@ const ALL_FIGURES: usize = 448;
 // A drain with this limit ends quiet on every board that a run reaches.
 const DRAIN: u64 = 6784;
 
-// The statement of a sound board, printed.
-fn print_board(board: Board, out: &mut [u8]) -> Printed
-    requires { ⌜ isSound board ≡ true ⌝ }
-    ensures { λ r. ⌜ r ≡ answerPrinted (statementOf board) (now (out .entry)) ⌝ }
-    ensures { λ _. ⌜ now (out .exit) ≡ slicePrinted (statementOf board) (now (out .entry)) ⌝ }
-{
-    let setup = board.setup;
-    let n = setup.n;
-    let down = board.down;
-    let mut figures = [0; ALL_FIGURES];
-    books_all_sound(board, &mut figures);
-    let count = FIGURES * wide(n);
-    print_statement(&figures[..count], n, down, out)
+// What a run and a drain leave beside the books: the drain's count, the sites that are down, and the number of the books' refusal.
+pub struct Settled {
+    pub count: u64,
+    pub down: u8,
+    pub why: u8,
 }
 
-// The events of a file from a board, then a drain, and the statement of the board it hands back, printed.
-fn state_from(board: Board, input: &[u8], out: &mut [u8]) -> Printed
-    requires { ⌜ StaysSound board × (eventCount (now input) ≤ eventLimit) ⌝ }
-    ensures { λ r. ⌜ r ≡ answerPrinted (statedRun board (callsOf (now (input .entry)))) (now (out .entry)) ⌝ }
-    ensures { λ _. ⌜ now (out .exit) ≡ slicePrinted (statedRun board (callsOf (now (input .entry)))) (now (out .entry)) ⌝ }
+// The events of a file from the board of its start, a drain with the limit, and the books of all sites in the slice.
+pub fn settle(input: &[u8], setup: Setup, limit: u64, out: &mut [i64]) -> Settled
+    requires { ⌜ StaysSound (freshBoard setup) × GoodIf false (freshBoard setup) × (eventCount (now input) ≤ eventLimit) ⌝ }
+    ensures { λ r. ⌜ r .count ≡ settledRun setup (callsOf (now (input .entry))) limit .count ⌝ }
+    ensures { λ r. ⌜ r .down ≡ settledRun setup (callsOf (now (input .entry))) limit .board .down ⌝ }
+    ensures { λ r. ⌜ r .why ≡ refusalOf (showingAll (settledRun setup (callsOf (now (input .entry))) limit .board) (now (out .entry)) .answer) ⌝ }
+    ensures { λ _. ⌜ settledRun setup (callsOf (now (input .entry))) limit .board .setup ≡ setup ⌝ }
+    ensures { λ _. ⌜ now (out .exit) ≡ showingAll (settledRun setup (callsOf (now (input .entry))) limit .board) (now (out .entry)) .slice ⌝ }
 {
+    let mut words = [0; SETS];
+    let mut counts = [0; COUNTS];
+    let mut bytes = [0; BYTES];
+    let mut amounts = [0; POSTINGS];
+    let mut masks = [0; MASKS];
+    let mut good = [0; PAIRS];
+    let mut carried = [0; LOADS];
     let mut numbers = [0; EVENTS];
-    let last = run_events(board, input, &mut numbers);
-    let drained = drain_sound(last, DRAIN);
-    let quiet = drained.board;
-    print_board(quiet, out)
+    let events = event_count(input);
+    run_events(
+        &mut words,
+        &mut counts,
+        &mut bytes,
+        &mut amounts,
+        &mut masks,
+        &mut good,
+        &mut carried,
+        setup,
+        input,
+        0,
+        events,
+        &mut numbers,
+    );
+    let done = drain_events(
+        &mut words,
+        &mut counts,
+        &mut bytes,
+        &mut amounts,
+        &mut masks,
+        &mut good,
+        &mut carried,
+        setup,
+        limit,
+    );
+    let answer = books_all_at(&counts, &bytes, &amounts, setup, out);
+    let why = refusal_of(answer);
+    Settled {
+        count: done.count,
+        down: bytes[DOWN],
+        why: why,
+    }
+}
+
+// The events of a file from the board of its start, then a drain, and the statement of the board that it leaves, printed.
+fn state_from(input: &[u8], setup: Setup, out: &mut [u8]) -> Printed
+    requires { ⌜ StaysSound (freshBoard setup) × GoodIf false (freshBoard setup) × (eventCount (now input) ≤ eventLimit) ⌝ }
+    ensures { λ r. ⌜ r ≡ answerPrinted (statedRun (freshBoard setup) (callsOf (now (input .entry)))) (now (out .entry)) ⌝ }
+    ensures { λ _. ⌜ now (out .exit) ≡ slicePrinted (statedRun (freshBoard setup) (callsOf (now (input .entry)))) (now (out .entry)) ⌝ }
+{
+    let mut figures = [0; ALL_FIGURES];
+    let settled = settle(input, setup, DRAIN, &mut figures);
+    let n = setup.n;
+    let count = FIGURES * wide(n);
+    print_statement(&figures[..count], n, settled.down, out)
 }
 
 // A run file, run, drained and stated: of any input what `statement` prints, into the slice if it has room for it.
@@ -64,14 +121,11 @@ pub fn statement(input: &[u8], out: &mut [u8]) -> Printed
 {
     if well_formed(input) {
         let setup = setup_of(input);
-        let start = opening::start(setup.n, setup.f, setup.matrix);
-        let answer = start.answer;
-        let refusal = refusal_of(answer);
+        let refusal = start_refusal(setup.n, setup.f, setup.matrix);
         if refusal != 0 {
             return print_refused(refusal, out);
         }
-        let board = start.board;
-        return state_from(board, input, out);
+        return state_from(input, setup, out);
     }
     print_refused(1, out)
 }

@@ -1,55 +1,63 @@
 -- `run_drain` meets its contract.
 -- Assumes nothing.
 use mathlib.Core.Path.{sym, ap, _∙_}
-use Rattle.runfile.proofs.Programs.{few-events, startWith, start-stays}
+use Rattle.runfile.proofs.Programs.{few-events, file-stays}
+use Rattle.statements.proofs.Stated.{started-good}
 use Rattle.exports.proofs.DrainLaws.{malformed-none, refused-none, started-drains}
 use borrow.Author.Needs.{needs}
 use Rattle.exports.proofs.run_drain.Statement.{statement}
 use Rattle.exports.proofs.run_drain.Tie as tie
+use Rattle.exports.proofs.run_drain.Reads as reads
+use Rattle.exports.proofs.run_drain.Lts as lts
+use Rattle.decoder.proofs.file.setup_of.Reads as setup-of-reads
+use Rattle.decoder.proofs.file.well_formed.Reads as well-formed-reads
+use Rattle.exports.proofs.drain_from.Reads as drain-from-reads
+use Rattle.opening.proofs.start_refusal.Reads as start-refusal-reads
 
+-- src/lib.rt:60:8
 well-formed-requires : tie.Need-well-formed-requires
 well-formed-requires c κs = search needs
 
+-- src/lib.rt:61:13
 setup-of-requires : tie.Need-setup-of-requires
 setup-of-requires c κs = search needs
 
-start-requires : tie.Need-start-requires
-start-requires c κs = search needs
+-- src/lib.rt:62:13
+start-refusal-requires : tie.Need-start-refusal-requires
+start-refusal-requires c κs = search needs
 
-refusal-of-requires : tie.Need-refusal-of-requires
-refusal-of-requires c κs = search needs
-
+-- src/lib.rt:64:13
 returns : tie.Need-returns
 returns c =
-    let at = c .before .before in
-    let at2 = at .before .before in
-    let at3 = at2 .before .before .before in
-    refused-none (at3 .args .input .now) (at3 .args .limit) (at3 .args .out .now) _ _ (sym (at2 .before .well-formed .ensures) ∙ at2 .if1 .taken) (at .start .ensures ∙ ap startWith (at .before .setup-of .ensures)) (c .before .refusal-of .ensures) (c .if2 .taken)
+    let g = c .before .before .before .before .before .before .args in
+    refused-none (g .input .now) (g .limit) (g .out .now) _ _ (sym (c .before .before .before .before .well-formed .ensures) ∙ c .before .before .before .if1 .taken) (c .before .before .setup-of .ensures) (c .before .start-refusal .ensures) (c .if2 .taken)
 
+-- src/lib.rt:66:9
 drain-from-requires : tie.Need-drain-from-requires
 drain-from-requires c κs =
-    let at = c .before .before in
-    let at2 = at .before .before in
-    let at3 = at2 .before .before in
-    let at4 = at3 .before .before .before in
-    (start-stays (at4 .args .input .now) _ _ (sym (at3 .before .well-formed .ensures) ∙ at3 .if1 .taken) (at2 .start .ensures ∙ ap startWith (at2 .before .setup-of .ensures)) (at .before .refusal-of .ensures) (at .if2 .left), few-events (at4 .args .input .now) (sym (at3 .before .well-formed .ensures) ∙ at3 .if1 .taken))
+    let input = c .before .before .before .before .before .before .before .args .input .now in
+    let well = sym (c .before .before .before .before .before .well-formed .ensures) ∙ c .before .before .before .before .if1 .taken in (
+      file-stays input _ _ well (c .before .before .before .setup-of .ensures) (c .before .before .start-refusal .ensures) (c .before .if2 .left),
+      started-good input _ _ well (c .before .before .before .setup-of .ensures) (c .before .before .start-refusal .ensures) (c .before .if2 .left),
+      few-events input well,
+    )
 
+-- src/lib.rt:66:9
 same-length : tie.Need-same-length
 same-length c = search needs
 
+-- src/lib.rt:66:9
 returns-2 : tie.Need-returns-2
 returns-2 c =
-    let at = c .before .before .before .before in
-    let at2 = at .before .before in
-    let at3 = at2 .before .before in
-    let at4 = at3 .before .before .before in
-    let same = started-drains (at4 .args .input .now) (at4 .args .limit) (at4 .args .out .now) _ _ (sym (at3 .before .well-formed .ensures) ∙ at3 .if1 .taken) (at2 .start .ensures ∙ ap startWith (at2 .before .setup-of .ensures)) (at .before .refusal-of .ensures) (at .if2 .left) in
+    let g = c .before .before .before .before .before .before .before .before .before .args in
+    let same = started-drains (g .input .now) (g .limit) (g .out .now) _ _ (sym (c .before .before .before .before .before .before .before .well-formed .ensures) ∙ c .before .before .before .before .before .before .if1 .taken) (c .before .before .before .before .before .setup-of .ensures) (c .before .before .before .before .start-refusal .ensures) (c .before .before .before .if2 .left) in
     (c .before .drain-from .ensures .0 ∙ ap (λ x. x .count) same, c .before .drain-from .ensures .1 ∙ ap (λ x. x .slice) same)
 
+-- src/lib.rt:55:1
 returns-3 : tie.Need-returns-3
 returns-3 c =
-    let at = c .before .before .before in
-    malformed-none (at .args .input .now) (at .args .limit) (at .args .out .now) (sym (c .before .well-formed .ensures) ∙ c .if1 .left)
+    let g = c .before .before .before .args in
+    malformed-none (g .input .now) (g .limit) (g .out .now) (sym (c .before .well-formed .ensures) ∙ c .if1 .left)
 
 pub run-drain-spec : {M : Type 1} → statement M
 run-drain-spec =
@@ -57,8 +65,7 @@ run-drain-spec =
     (tie.spec
     well-formed-requires
     setup-of-requires
-    start-requires
-    refusal-of-requires
+    start-refusal-requires
     returns
     drain-from-requires
     same-length

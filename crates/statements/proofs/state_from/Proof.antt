@@ -1,39 +1,84 @@
 -- `state_from` meets its contract.
 -- Assumes nothing.
+use Prim.Native.Nat.{ℕ, _*_, _≤_}
+use mathlib.Core.Path.{sym, ap}
+use native.Mathlib.Omega.{arith}
+use lib.ListN.{length}
+use lib.Seq.{length-take-le}
+use Rattle.machine.specs.Boards.{freshBoard}
+use Rattle.invariants.proofs.Reached.{good-sites}
 use Rattle.decoder.specs.RunFile.{callsOf}
 use Rattle.runfile.proofs.Programs.{printed-as}
-use Rattle.statements.proofs.Stated.{last-sound, quiet-sound, run-stated}
+use Rattle.statements.proofs.Stated.{settled-text}
 use borrow.Author.Needs.{needs}
 use Rattle.statements.proofs.state_from.Statement.{statement}
 use Rattle.statements.proofs.state_from.Tie as tie
+use Rattle.statements.proofs.state_from.Reads as reads
+use Rattle.statements.proofs.state_from.Lts as lts
+use Rattle.figures_table.proofs.lines.print_statement.Reads as print-statement-reads
+use Rattle.printer.proofs.print.wide.Reads as wide-reads
+use Rattle.statements.proofs.settle.Reads as settle-reads
 
-slice-aggregate-run-events : tie.Need-slice-aggregate-run-events
-slice-aggregate-run-events c = search needs
+-- there is room for the books of all sites
+room : (c : tie.After-wide) → 64 * c .wide .result ≤ 448
+room c =
+    let start = c .before .before .before .before .before .before in
+    omega (arith, c .wide .ensures, good-sites (freshBoard (start .args .setup)) (start .pre .1))
 
-run-events-requires : tie.Need-run-events-requires
-run-events-requires c κs = search needs
+-- src/lib.rt:111:47
+slice-aggregate-settle : tie.Need-slice-aggregate-settle
+slice-aggregate-settle c = search needs
 
-drain-sound-requires : tie.Need-drain-sound-requires
-drain-sound-requires c κs = last-sound (c .before .before .before .before .before .args .board) _ (callsOf (c .before .before .before .before .before .args .input .now)) (c .before .before .before .before .before .pre .0) (c .before .run-events .ensures .0)
+-- src/lib.rt:111:9
+settle-requires : tie.Need-settle-requires
+settle-requires c κs = search needs
 
-print-board-requires : tie.Need-print-board-requires
-print-board-requires c κs = quiet-sound (c .before .before .before .before .before .before .before .before .args .board) _ (callsOf (c .before .before .before .before .before .before .before .before .args .input .now)) (c .before .before .before .before .before .before .before .before .pre .0) (c .before .before .before .before .run-events .ensures .0) _ _ (c .before .before .drain-sound .ensures)
+-- src/lib.rt:113:27
+wide-requires : tie.Need-wide-requires
+wide-requires c κs = search needs
 
+-- src/lib.rt:113:17
+mul-count : tie.Need-mul-count
+mul-count c = search needs
+
+-- src/lib.rt:114:21
+array-share-prefix-figures : tie.Need-array-share-prefix-figures
+array-share-prefix-figures c = omega (arith, room c)
+
+-- src/lib.rt:114:21
+slice-aggregate-print-statement : tie.Need-slice-aggregate-print-statement
+slice-aggregate-print-statement c =
+    let figures = c .before .before .before .settle .last .1 .1 .1 .0 in
+    let h : 64 * c .before .wide .result ≤ length figures = omega (arith, room (c .before)) in
+    sym (length-take-le (64 * c .before .wide .result) figures h)
+
+-- src/lib.rt:114:5
+print-statement-requires : tie.Need-print-statement-requires
+print-statement-requires c κs = search needs
+
+-- src/lib.rt:105:1
 same-length : tie.Need-same-length
 same-length c = search needs
 
+-- src/lib.rt:105:1
 returns : tie.Need-returns
 returns c =
-    let args = c .before .before .before .before .before .before .before .before .before .before .before .args in
-    printed-as (args .out .now) (run-stated (args .board) _ (callsOf (args .input .now)) (c .before .before .before .before .before .before .before .before .before .before .before .pre .0) (c .before .before .before .before .before .before .before .run-events .ensures .0) _ (c .before .before .before .before .before .drain-sound .ensures)) (c .before .before .print-board .ensures)
+    let start = c .before .before .before .before .before .before .before .before .before .before .before in
+    let g = start .args in
+    let done = c .before .before .before .before .before .before .before .settle in
+    let n = c .before .before .before .before .before .wide in
+    printed-as (g .out .now) (settled-text (g .setup) (callsOf (g .input .now)) (start .pre .0) _ (done .last .1 .1 .1 .0) (64 * n .result) (done .result .down) (done .ensures .1 .1 .1 .0) (done .ensures .1 .1 .1 .1) (done .ensures .1 .0) (ap (λ (k : ℕ). 64 * k) (n .ensures)) (room (c .before .before .before .before .before))) (c .before .before .print-statement .ensures)
 
 pub state-from-spec : {M : Type 1} → statement M
 state-from-spec =
     tie.close
     (tie.spec
-    slice-aggregate-run-events
-    run-events-requires
-    drain-sound-requires
-    print-board-requires
+    slice-aggregate-settle
+    settle-requires
+    wide-requires
+    mul-count
+    array-share-prefix-figures
+    slice-aggregate-print-statement
+    print-statement-requires
     same-length
     returns)

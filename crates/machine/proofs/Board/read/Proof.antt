@@ -1,28 +1,42 @@
 -- `read` meets its contract.
 -- Assumes nothing.
 use mathlib.Core.Path.{sym, _∙_}
+use Rattle.machine.specs.Runs.{taking}
 use Rattle.machine.specs.Calls.{reading}
 use Rattle.machine.proofs.Causes.{unsound-refused}
+use Rattle.machine.proofs.Answered.{answered-by, read-by}
 use borrow.Author.Needs.{needs}
 use Rattle.machine.proofs.Board.read.Statement.{statement}
 use Rattle.machine.proofs.Board.read.Tie as tie
+use Rattle.machine.proofs.Board.read.Reads as reads
+use Rattle.machine.proofs.Board.read.Lts as lts
+use Rattle.machine.proofs.Board.is_sound.Reads as is-sound-reads
+use Rattle.machine.proofs.Board.take.Reads as take-reads
+use Rattle.machine.proofs.service.outcome.Reads as outcome-reads
 
+-- src/service.rt:161:12
 is-sound-requires : tie.Need-is-sound-requires
 is-sound-requires c κs = search needs
 
-read-sound-requires : tie.Need-read-sound-requires
-read-sound-requires c κs =
-    sym (c .before .is-sound .ensures) ∙ c .if1 .taken
+-- src/service.rt:162:17
+take-requires : tie.Need-take-requires
+take-requires c κs = sym (c .before .is-sound .ensures) ∙ c .if1 .taken
 
+-- src/service.rt:166:13
+outcome-requires : tie.Need-outcome-requires
+outcome-requires c κs = search needs
+
+-- src/service.rt:166:13
 returns : tie.Need-returns
-returns c = search needs
+unfolding taking
+returns c =
+    let g = c .before .before .before .before .args in
+    c .outcome .ensures ∙ answered-by _ _ (read-by (g .self) (g .site) (g .cut)) _ _ (c .before .take .ensures .0) (c .before .take .ensures .1)
 
+-- src/service.rt:158:5
 returns-2 : tie.Need-returns-2
 unfolding reading
-returns-2 c =
-    let at = c .before in
-    unsound-refused (at .before .args .self) (sym (at .is-sound .ensures) ∙ c .if1 .left) _ _
+returns-2 c = unsound-refused (c .before .before .args .self) (sym (c .before .is-sound .ensures) ∙ c .if1 .left) _ _
 
 pub read-spec : {M : Type 1} → statement M
-read-spec =
-    tie.close (tie.spec is-sound-requires read-sound-requires returns returns-2)
+read-spec = tie.close (tie.spec is-sound-requires take-requires outcome-requires returns returns-2)

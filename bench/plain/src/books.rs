@@ -1,0 +1,54 @@
+// Holds: the books of a site and of all sites, posted from zeros into a lent slice.
+// Rests on: arrays.
+
+use crate::arrays::{Board, A, ACCOUNTS, B, KIND};
+
+/// The figures of an account, and of all accounts.
+const OF_ACCOUNT: usize = 4;
+pub const FIGURES: usize = OF_ACCOUNT * ACCOUNTS;
+
+/// Where a figure stands among those of its account.
+const POSITION: usize = 0;
+const RATE: usize = 1;
+const CALLED: usize = 2;
+const SETTLED: usize = 3;
+
+/// A rate is so many parts of this.
+const WHOLE: u64 = 10_000;
+
+/// The size of the position times the rate, rounded up.
+fn called(position: i64, rate: i64) -> i64 {
+    let product = position.unsigned_abs() * rate.unsigned_abs();
+    product.div_ceil(WHOLE) as i64
+}
+
+impl Board {
+    /// Fills in the figures of all sites; the slice has room for them.
+    pub fn books(&self, out: &mut [i64]) {
+        let sites = 0..usize::from(self.setup.n);
+        for (site, figures) in sites.zip(out.chunks_exact_mut(FIGURES)) {
+            figures.fill(0);
+            for &m in self.record(site) {
+                self.post(m.into(), figures);
+            }
+        }
+    }
+
+    fn post(&self, m: usize, figures: &mut [i64]) {
+        let a = OF_ACCOUNT * usize::from(self.bytes[A + m]);
+        let b = OF_ACCOUNT * usize::from(self.bytes[B + m]);
+        let amount = i64::from(self.amounts[m]);
+        match self.bytes[KIND + m] {
+            0 => {
+                figures[a + POSITION] += amount;
+                figures[b + POSITION] -= amount;
+            }
+            1 => figures[a + RATE] = amount,
+            2 => figures[a + CALLED] += called(figures[a + POSITION], figures[a + RATE]),
+            _ => {
+                figures[a + SETTLED] += figures[a + POSITION];
+                figures[a + POSITION] = 0;
+            }
+        }
+    }
+}

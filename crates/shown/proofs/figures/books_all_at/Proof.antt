@@ -1,0 +1,89 @@
+-- `books_all_at` meets its contract.
+-- Assumes nothing.
+use Prim.Native.Nat.{_<_}
+use mathlib.Core.List.{[]}
+use native.Mathlib.Omega.{arith}
+use Rattle.site.specs.Sites.{sites}
+use Rattle.books.proofs.Sheets.{blank-opening}
+use Rattle.arrays.specs.Arrays.{arrays}
+use Rattle.shown.proofs.Showing.{no-room-at, all-shown-at, post-at}
+use borrow.Author.Needs.{needs}
+use Rattle.shown.proofs.figures.books_all_at.Statement.{statement}
+use Rattle.shown.proofs.figures.books_all_at.Tie as tie
+use Rattle.shown.proofs.figures.books_all_at.Reads as reads
+use Rattle.shown.proofs.figures.books_all_at.Lts as lts
+use Rattle.books.proofs.blank.Reads as blank-reads
+use Rattle.books.proofs.books_all.Reads as books-all-reads
+use Rattle.machine.proofs.taking.table_of.Reads as table-of-reads
+use Rattle.shown.proofs.figures.records_of.Reads as records-of-reads
+
+-- src/figures.rt:114:13
+cast-n : tie.Need-cast-n
+cast-n c = search needs
+
+-- src/figures.rt:115:20
+mul-if1 : tie.Need-mul-if1
+mul-if1 c = search needs
+
+-- src/figures.rt:116:9
+returns : tie.Need-returns
+returns c =
+    let g = c .before .before .args in
+    λ sets masks good carried sound.
+    let a = arrays sets (g .counts .now) (g .bytes .now) (g .amounts .now) masks good carried in
+    no-room-at (g .setup) a sound (g .out .now) (c .if1 .taken)
+
+-- src/figures.rt:118:9
+table-of-requires : tie.Need-table-of-requires
+table-of-requires c κs = search needs
+
+-- src/figures.rt:119:9
+records-of-requires : tie.Need-records-of-requires
+records-of-requires c κs = search needs
+
+-- src/figures.rt:120:9
+blank-requires : tie.Need-blank-requires
+blank-requires c κs = search needs
+
+-- src/figures.rt:121:5
+books-all-requires : tie.Need-books-all-requires
+books-all-requires c κs =
+    let start = c .before .before .before .before .before .before in
+    let g = start .args in
+    let a = arrays [] (g .counts .now) (g .bytes .now) (g .amounts .now) [] [] [] in
+    let few = start .pre .0 in
+    rw (c .before .blank .ensures) (
+      λ p h.
+          let there : p < sites = omega (arith, h, few) in
+          post-at a (c .before .before .before .table-of .result) (c .before .before .records-of .result) (c .before .before .before .table-of .ensures [] [] [] []) (c .before .before .records-of .ensures [] (g .amounts .now) [] [] []) p there (start .pre .1 p h),
+      blank-opening,
+      few,
+      c .before .before .before .before .if1 .left,
+    )
+
+-- src/figures.rt:104:1
+same-length : tie.Need-same-length
+same-length c = search needs
+
+-- src/figures.rt:104:1
+returns-2 : tie.Need-returns-2
+returns-2 c =
+    let g = c .before .before .before .before .before .before .before .before .args in
+    λ sets masks good carried sound.
+    let a = arrays sets (g .counts .now) (g .bytes .now) (g .amounts .now) masks good carried in
+    all-shown-at (g .setup) a sound (c .before .before .before .before .before .table-of .result) (c .before .before .before .before .records-of .result) (c .before .before .before .before .before .table-of .ensures sets masks good carried)
+    (c .before .before .before .before .records-of .ensures sets (g .amounts .now) masks good carried) (g .out .now) (c .before .before .before .before .before .before .if1 .left) _ (c .before .before .before .blank .ensures) _ (c .before .books-all .ensures)
+
+pub books-all-at-spec : {M : Type 1} → statement M
+books-all-at-spec =
+    tie.close
+    (tie.spec
+    cast-n
+    mul-if1
+    returns
+    table-of-requires
+    records-of-requires
+    blank-requires
+    books-all-requires
+    same-length
+    returns-2)
