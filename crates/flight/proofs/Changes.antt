@@ -1,42 +1,30 @@
--- What the stores of the code make of the arrays: past the last place nothing changes, else one place is set.
+-- What the stores of the code make of the arrays: one place is set.
 -- Rests on Flights, CellLaws and CarriedLaws; i is what `cell` or `pair` returned. Assumes nothing.
 use Prim.Native.Nat.{ℕ, _*_, _^_, _<_, _≤_}
 use mathlib.Core.Path.{_≡_, sym}
-use mathlib.Core.Logic.{_≢_}
-use mathlib.Core.Bool.{Bool, true, false}
+use mathlib.Core.Bool.{true, false}
 use mathlib.Core.List.{List}
 use native.Mathlib.Omega.{arith}
 use lib.ListN.{getD, set}
 use lib.Seq.{sets}
-use borrow.Author.Tests.{eq-eqb, ne-eqb, lt-ltb, le-ltb}
+use borrow.Author.Tests.{eq-eqb, lt-ltb}
 use lib.Bits.{bitOr}
 use Rattle.sets.specs.declared.Set.{Set}
 use Rattle.sets.specs.Sets.{words, ofWords, emptySet}
 use Rattle.site.specs.Sends.{SECOND}
 use Rattle.flight.specs.Flights.{pairs, cells, pairAt, cellAt, writeAt, wordsFrom, setIn, less, sendingTo, takingFrom, saying, carrying, goodSent}
-use Rattle.flight.specs.CarriedLaws.{set-past, carrying-past}
+use Rattle.flight.specs.CarriedLaws.{set-past}
 
--- past the last place nothing changes, and below it one place is set
-write-none : (n : ℕ) (l : List ℕ) (i v : ℕ) → n ≤ i → l ≡ writeAt n l i v
-write-none n l i v h = rw (le-ltb i n h)
-
+-- below the last place one place is set
 write-one : (n : ℕ) (l : List ℕ) (i v : ℕ) → i < n → set l i v ≡ writeAt n l i v
 write-one n l i v h = rw (lt-ltb i n h)
 
 -- ---- receivers
 
 module _ (masks : List ℕ) (form m from i : ℕ) (e : i ≡ cellAt form m from) where
-  pub none-sent : (receivers : ℕ) → cells ≤ i → masks ≡ sendingTo masks form m from receivers
-  unfolding sendingTo
-  none-sent receivers h = rw (← e) (write-none cells masks i _ h)
-
   pub one-sent : (receivers : ℕ) → i < cells → set masks i (bitOr (getD masks i 0) receivers) ≡ sendingTo masks form m from receivers
   unfolding sendingTo
   one-sent receivers h = rw (← e) (write-one cells masks i _ h)
-
-  pub none-taken : (to : ℕ) → cells ≤ i → masks ≡ takingFrom masks form m from to
-  unfolding takingFrom
-  none-taken to h = rw (← e) (write-none cells masks i _ h)
 
   pub one-taken : (to : ℕ) → i < cells → set masks i (less (getD masks i 0) (2 ^ to)) ≡ takingFrom masks form m from to
   unfolding takingFrom
@@ -45,13 +33,6 @@ module _ (masks : List ℕ) (form m from i : ℕ) (e : i ≡ cellAt form m from)
 -- ---- GOODs
 
 module _ (good : List ℕ) (form m from i : ℕ) (e : i ≡ pairAt m from) where
-  pub other-form : (receivers : ℕ) (so : Bool) → form ≢ SECOND → good ≡ goodSent good form m from receivers so
-  other-form receivers so d = rw (ne-eqb form SECOND d)
-
-  pub none-said : (receivers : ℕ) (so : Bool) → form ≡ SECOND → pairs ≤ i → good ≡ goodSent good form m from receivers so
-  unfolding saying
-  none-said receivers so f h = rw (eq-eqb form SECOND f, ← e) (write-none pairs good i _ h)
-
   pub one-good : (receivers : ℕ) → form ≡ SECOND → i < pairs → set good i (bitOr (getD good i 0) receivers) ≡ goodSent good form m from receivers true
   unfolding saying
   one-good receivers f h = rw (eq-eqb form SECOND f, ← e, lt-ltb i pairs h)
@@ -63,9 +44,6 @@ module _ (good : List ℕ) (form m from i : ℕ) (e : i ≡ pairAt m from) where
 -- ---- carried sets
 
 module _ (carried : List ℕ) (m from i : ℕ) (e : i ≡ pairAt m from) where
-  pub none-carried : (load : Set) → pairs ≤ i → carried ≡ carrying carried m from load
-  none-carried load h = sym (carrying-past carried m from load (omega arith))
-
   pub one-carried : (load : Set) → i < pairs → sets carried (words * i) (load .words) ≡ carrying carried m from load
   unfolding carrying
   one-carried load h = rw (← e, lt-ltb i pairs h)

@@ -10,12 +10,11 @@ use lib.Dec.{ltb}
 use lib.ListN.{getD}
 use borrow.Author.Tests.{lt-ltb, le-ltb}
 use Rattle.sets.specs.Masks.{hasBit}
-use Rattle.sets.specs.MaskLaws.{has-bit-zero}
 use Rattle.sets.specs.Truth.{test, not-so}
 use Rattle.sets.specs.Sets.{capacity}
 use Rattle.site.specs.Sites.{sites}
 use Rattle.site.specs.Sends.{forms}
-use Rattle.flight.specs.Flights.{pairs, cells, isPair, isCell, pairAt, cellAt, messageIn, goodIn}
+use Rattle.flight.specs.Flights.{pairs, cells, isPair, isCell, pairAt, cellAt, messageIn}
 use Rattle.flight.specs.CellLaws.{pair-range, cell-range, pair-in, pair-out, cell-in, cell-out, cell-below, pair-below}
 
 -- ---- pairs
@@ -71,12 +70,3 @@ module _ (masks : List ℕ) (form m from to i : ℕ) (e : i ≡ cellAt form m fr
       found : (isCell form m from ≡ true) ⊎ (isCell form m from ≡ false) → isCell form m from ≡ true
       found (inl t) = t
       found (inr f) = absurd (omega (arith, cell-out form m from f))
-
--- ---- GOODs, where i is what `pair` returned
-
-module _ (good : List ℕ) (m from to i : ℕ) (e : i ≡ pairAt m from) where
-  pub no-good : pairs ≤ i → hasBit (goodIn good m from) to ≡ false
-  no-good h = rw (le-ltb (pairAt m from) pairs (omega arith)) (has-bit-zero to)
-
-  pub good-found : i < pairs → hasBit (goodIn good m from) to ≡ hasBit (getD good i 0) to
-  good-found h = rw (← e, lt-ltb i pairs h)

@@ -1,11 +1,10 @@
 // What is in flight: for each form, posting and sender the receivers, and the loads of SECONDs and THIRDs.
 // Rests on site, posting and sets. Each function is over one array, lent where it lies, and answers for all arguments: what is out of range
-// is not in flight, and changes nothing.
-ghost use Prim.Native.Nat.{_^_};
+// is not in flight.
 ghost use mathlib.Core.Path.{_≡_};
-ghost use lib.ListN.{take, drop};
+ghost use lib.ListN.{take};
 ghost use Rattle.sets.specs.Masks.{hasBit};
-ghost use Rattle.flight.specs.Flights.{cells, less, pairAt, cellAt, messageIn, goodIn, setIn, sendingTo, takingFrom, goodSent, setSent, carrying, goodTaken, setTaken, lowestFrom, nothingComes, emptyFlight};
+ghost use Rattle.flight.specs.Flights.{cells, pairAt, cellAt, messageIn, setIn, nothingComes, emptyFlight};
 use sets::POSTINGS;
 use sets::Set;
 use sets::WORDS;
@@ -13,8 +12,6 @@ use site::SITES;
 
 // Document 01's forms: FIRST, SECOND, THIRD, DELIVER.
 pub const FORMS: usize = 4;
-
-pub const SECOND: usize = 1;
 
 pub const THIRD: usize = 2;
 
@@ -68,16 +65,6 @@ fn has_bit(mask: u8, site: usize) -> bool
     (mask >> site) % 2 == 1
 }
 
-// The mask without the site.
-fn clear_bit(mask: u8, site: usize) -> u8
-    ensures { λ r. ⌜ r ≡ less mask (2 ^ site) ⌝ }
-{
-    if 8 <= site {
-        return mask;
-    }
-    mask - (mask & (1 << site))
-}
-
 // ---- places
 
 // The place of a posting and sender; the number past the last if there is none.
@@ -122,17 +109,6 @@ pub fn in_flight(masks: &[u8; MASKS], form: usize, m: usize, from: usize, to: us
     has_bit(masks[i], to)
 }
 
-// Whether the SECOND of m says GOOD to a site.
-pub fn is_good(good: &[u8; PAIRS], m: usize, from: usize, to: usize) -> bool
-    ensures { λ r. ⌜ r ≡ hasBit (goodIn (now (good .entry)) m from) to ⌝ }
-{
-    let i = pair(m, from);
-    if PAIRS <= i {
-        return false;
-    }
-    has_bit(good[i], to)
-}
-
 // The set that the THIRD of m carries.
 pub fn carried_set(carried: &[u64; LOADS], m: usize, from: usize) -> Set
     ensures { λ r. ⌜ r ≡ setIn (now (carried .entry)) m from ⌝ }
@@ -146,141 +122,6 @@ pub fn carried_set(carried: &[u64; LOADS], m: usize, from: usize) -> Set
         load.words[k] = carried[WORDS * i + k];
     }
     load
-}
-
-// ---- sending, to every site of a mask: to no site, nothing
-
-pub fn send(masks: &mut [u8; MASKS], form: usize, m: usize, from: usize, receivers: u8)
-    ensures { λ r. ⌜ now (masks .exit) ≡ sendingTo (now (masks .entry)) form m from receivers ⌝ }
-{
-    let i = cell(form, m, from);
-    if MASKS <= i {
-        return;
-    }
-    let w = masks[i];
-    masks[i] = w | receivers;
-}
-
-// A SECOND's GOOD or BAD; of another form, nothing.
-pub fn send_good(
-    good: &mut [u8; PAIRS],
-    form: usize,
-    m: usize,
-    from: usize,
-    receivers: u8,
-    so: bool,
-)
-    ensures { λ r. ⌜ now (good .exit) ≡ goodSent (now (good .entry)) form m from receivers so ⌝ }
-{
-    let i = pair(m, from);
-    if form != SECOND {
-        return;
-    }
-    if PAIRS <= i {
-        return;
-    }
-    let w = good[i];
-    if so {
-        good[i] = w | receivers;
-        return;
-    }
-    good[i] = w - (w & receivers);
-}
-
-// A THIRD's set; of another form, nothing.
-pub fn send_carried(
-    carried: &mut [u64; LOADS],
-    form: usize,
-    m: usize,
-    from: usize,
-    receivers: u8,
-    load: Set,
-)
-    ensures { λ r. ⌜ now (carried .exit) ≡ setSent (now (carried .entry)) form m from receivers load ⌝ }
-{
-    if form != THIRD {
-        return;
-    }
-    if receivers == 0 {
-        return;
-    }
-    store(carried, m, from, load);
-}
-
-// The set of m and a sender stored.
-fn store(carried: &mut [u64; LOADS], m: usize, from: usize, load: Set)
-    ensures { λ r. ⌜ now (carried .exit) ≡ carrying (now (carried .entry)) m from load ⌝ }
-{
-    let i = pair(m, from);
-    if PAIRS <= i {
-        return;
-    }
-    for k in 0..WORDS {
-        carried[WORDS * i + k] = load.words[k];
-    }
-}
-
-// ---- taking out: a message leaves, and its load with it
-
-pub fn take_out(masks: &mut [u8; MASKS], form: usize, m: usize, from: usize, to: usize)
-    ensures { λ r. ⌜ now (masks .exit) ≡ takingFrom (now (masks .entry)) form m from to ⌝ }
-{
-    let i = cell(form, m, from);
-    if MASKS <= i {
-        return;
-    }
-    masks[i] = clear_bit(masks[i], to);
-}
-
-// A SECOND's GOOD; of another form, nothing.
-pub fn clear_good(good: &mut [u8; PAIRS], form: usize, m: usize, from: usize, to: usize)
-    ensures { λ r. ⌜ now (good .exit) ≡ goodTaken (now (good .entry)) form m from to ⌝ }
-{
-    let i = pair(m, from);
-    if form != SECOND {
-        return;
-    }
-    if PAIRS <= i {
-        return;
-    }
-    good[i] = clear_bit(good[i], to);
-}
-
-// A THIRD's set; of another form, nothing.
-pub fn clear_carried(carried: &mut [u64; LOADS], form: usize, m: usize, from: usize)
-    ensures { λ r. ⌜ now (carried .exit) ≡ setTaken (now (carried .entry)) form m from ⌝ }
-{
-    if form != THIRD {
-        return;
-    }
-    store(carried, m, from, Set::empty());
-}
-
-// ---- the lowest message
-
-// The lowest message by form, posting, from, to at a site of the mask, from a cell on. Where no lower cell has one it is the lowest of all.
-pub fn lowest_from(masks: &[u8; MASKS], up: u8, first: usize) -> Found
-    ensures { λ r. ⌜ r ≡ lowestFrom first (drop first (take cells (now (masks .entry)))) up ⌝ }
-{
-    let mut found = Found::Nothing;
-    'search: for k in first..MASKS {
-        let w = masks[k] & up;
-        if w == 0 {
-            continue;
-        }
-        for to in 0..SITES {
-            if has_bit(w, to) {
-                found = Found::Message {
-                    form: k / PAIRS,
-                    posting: k / SITES % POSTINGS,
-                    from: k % SITES,
-                    to: to,
-                };
-                break 'search;
-            }
-        }
-    }
-    found
 }
 
 // Whether nothing in flight is for a site of the mask.

@@ -24,7 +24,6 @@ pub mod Tables
 pub mod OnOffer
 pub mod LaidSets
 pub mod Laid
-pub mod Passed
 pub mod Facts
 pub mod Outcomes
 pub mod Received

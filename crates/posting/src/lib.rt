@@ -4,7 +4,7 @@ ghost use mathlib.Core.Path.{_≡_};
 ghost use mathlib.Core.Bool.{not, _&&_};
 ghost use Prim.Native.Nat.{_<_, _/_, _%_};
 ghost use Rattle.posting.specs.Kinds.{inRow, fieldsOk, matrixEntry, symmetric, pairOk, hasFixedPairs};
-ghost use Rattle.posting.specs.Conflicts.{row, offered, offeredBy, touches, shares, conflicting, conflictSet};
+ghost use Rattle.posting.specs.Conflicts.{row, offeredBy, touches, shares, conflicting, conflictSet};
 ghost use Rattle.posting.specs.Records.{emptyRecord, contains, append};
 use sets::POSTINGS;
 use sets::Set;
@@ -226,13 +226,6 @@ fn offered_conflict(count: usize, matrix: u16, m: usize, p: Posting, x: usize, q
 }
 
 impl Table {
-    // Whether posting m has been offered.
-    pub fn offered(self, m: usize) -> bool
-        ensures { λ r. ⌜ r ≡ offered self m ⌝ }
-    {
-        offered_by(self.count, m)
-    }
-
     // The row of number m; past the capacity, a row of zeros.
     pub fn row(self, m: usize) -> Posting
         ensures { λ r. ⌜ r ≡ row self m ⌝ }

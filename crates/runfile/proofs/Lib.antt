@@ -2,5 +2,4 @@
 -- Assumes nothing.
 pub mod Runs
 pub mod Programs
-pub mod Fits
 pub mod Evaluated

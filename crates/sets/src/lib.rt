@@ -1,7 +1,7 @@
 // Sets of posting numbers, in 64-bit words.
 // Rests on nothing.
 ghost use mathlib.Core.Path.{_≡_};
-ghost use Rattle.sets.specs.Sets.{emptySet, has, with, without, withIf, join, meet, subset, isEmptySet};
+ghost use Rattle.sets.specs.Sets.{emptySet, has, with, withIf, join, meet, subset, isEmptySet};
 
 // How many words a set has: one word holds 64 postings.
 pub const WORDS: usize = 1;
@@ -43,19 +43,6 @@ impl Set {
         let i = m / 64;
         let w = self.words[i];
         self.words[i] = w | (1 << (m % 64));
-        self
-    }
-
-    // The set without m; without a number past the capacity, the set as it is.
-    pub fn without(mut self, m: usize) -> Set
-        ensures { λ r. ⌜ r ≡ without self m ⌝ }
-    {
-        if POSTINGS <= m {
-            return self;
-        }
-        let i = m / 64;
-        let w = self.words[i];
-        self.words[i] = w & !(1 << (m % 64));
         self
     }
 

@@ -3,6 +3,3 @@
 pub mod Counts
 pub mod Firsts
 pub mod Fits
-pub mod Second
-pub mod Third
-pub mod Delivered

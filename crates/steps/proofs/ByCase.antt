@@ -4,13 +4,11 @@ use Prim.Native.Nat.{ℕ}
 use mathlib.Core.Path.{_≡_}
 use native.Mathlib.Omega.{arith}
 use borrow.Author.Tests.{le-ltb}
-use Rattle.sets.specs.declared.Set.{Set}
 use Rattle.masks.specs.SiteMasks.{withSite}
-use Rattle.site.specs.declared.Site.{Site}
 use Rattle.steps.specs.declared.Cut.{Cut}
 use Rattle.steps.specs.declared.Cut.the-variants.{Whole, After}
 use Rattle.steps.specs.Causes.{firstCause, cutCauses}
-use Rattle.steps.specs.Cuts.{sitesTo, entryTo, downAfter}
+use Rattle.steps.specs.Cuts.{sitesTo, downAfter}
 
 -- what is not cut has no cause
 pub whole-cut : (f down sends : ℕ) (cut : Cut) → cut ≡ Whole → firstCause (cutCauses f down sends cut) ≡ 0
@@ -22,6 +20,3 @@ cut-down down p cut j e = rw e
 
 pub cut-sites : (mask : ℕ) (cut : Cut) (j : ℕ) → cut ≡ After j → sitesTo mask (After j) ≡ sitesTo mask cut
 cut-sites mask cut j e = rw e
-
-pub cut-entry : (s : Site) (carried : Set) (m : ℕ) (cut : Cut) → cut ≡ Whole → entryTo s carried m Whole ≡ entryTo s carried m cut
-cut-entry s carried m cut e = rw e
