@@ -2,4 +2,5 @@
 -- Assumes nothing.
 pub mod Runs
 pub mod Programs
+pub mod Fits
 pub mod Evaluated
