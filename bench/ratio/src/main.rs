@@ -32,31 +32,26 @@ fn main() {
     }
     println!("Run files: decoded, events done, text written. Events per second.\n");
     table(&cases, Unit::EventsPerSecond, |side, case| {
-        Some((case.events, side.on_file(&case.carried)))
+        (case.events, side.on_file(&case.carried))
     });
     println!("Drains: offers decoded and done, the board drained to quiet, books written. Events per second.\n");
     table(&cases, Unit::EventsPerSecond, |side, case| {
-        Some((case.drained, side.on_drain(&case.offered)))
+        (case.drained, side.on_drain(&case.offered))
     });
     println!("Run files without printing: decoded, events done. ns an event without printing.\n");
     table(&cases, Unit::Nanoseconds, |side, case| {
-        Some((case.events, side.on_events(&case.carried)?))
+        (case.events, side.on_events(&case.carried))
     });
     memory::table(largest(&cases));
 }
 
-/// One line a case: the best of each side that has the call; then for the proved one, against each other, the ratio
+/// One line a case: the best of each side; then for the proved one, against each other, the ratio
 /// of the best speeds and the quartiles of the ratio turn by turn.
-fn table<'a>(
-    cases: &'a [Case],
-    unit: Unit,
-    timed: impl Fn(&'a Side, &'a Case) -> Option<Timed<'a>>,
-) {
-    let has = |side: &&'a Side| timed(side, &cases[0]).is_some();
-    let sides: Vec<&Side> = SIDES.iter().filter(has).collect();
+fn table<'a>(cases: &'a [Case], unit: Unit, timed: impl Fn(&'a Side, &'a Case) -> Timed<'a>) {
+    let sides: Vec<&Side> = SIDES.iter().collect();
     header(&sides);
     for case in cases {
-        let mut calls: Vec<Timed> = sides.iter().filter_map(|side| timed(side, case)).collect();
+        let mut calls: Vec<Timed> = sides.iter().map(|side| timed(side, case)).collect();
         let Case {
             n,
             postings,

@@ -3,8 +3,8 @@
 
 use crate::cases::Case;
 use model::prng::Prng;
-use model::{decode, Board, FIGURES, MAX_EVENTS, SITES};
-use programs::programs::{Programs, MODEL, NONE};
+use model::{FIGURES, MAX_EVENTS, SITES};
+use programs::programs::{Programs, MODEL};
 use std::hint::black_box;
 use text::statement::DRAIN;
 
@@ -13,14 +13,9 @@ const SEED: u64 = 1;
 /// Longer than what any run file makes `board` print.
 const TEXT: usize = 1 << 16;
 
-/// Runs a file without printing: fills in the refusal number of each event, 0 if it is accepted. The answer is the
-/// count of events, or NONE if the file is refused.
-type RunEvents = fn(input: &[u8], numbers: &mut [u8]) -> u64;
-
 pub struct Side {
     pub name: &'static str,
     programs: Programs,
-    run_events: Option<RunEvents>,
     /// The model prints a text of its own, which is not copied into a slice.
     prints: bool,
 }
@@ -28,7 +23,6 @@ pub struct Side {
 const OF_MODEL: Side = Side {
     name: "model",
     programs: MODEL,
-    run_events: Some(model_events),
     prints: true,
 };
 
@@ -43,61 +37,19 @@ pub static SIDES: [Side; 3] = [
         programs: Programs {
             run_file: plain::run_file,
             run_drain: plain::run_drain,
+            run_events: plain::run_events,
         },
-        run_events: Some(plain::run_events),
         prints: false,
     },
     Side {
         name: PROVED,
         programs: programs::proved::PROVED,
-        run_events: proved::RUN_EVENTS,
         prints: false,
     },
 ];
 
 /// The side whose speed is set against those of the others.
 pub const PROVED: &str = "proved";
-
-/// The model's own loop.
-fn model_events(input: &[u8], numbers: &mut [u8]) -> u64 {
-    let Ok(run) = decode(input) else { return NONE };
-    let (mut board, started) = Board::start(run.n.into(), run.f.into(), run.matrix);
-    if started.is_err() {
-        return NONE;
-    }
-    for (number, call) in numbers.iter_mut().zip(&run.calls) {
-        let answer = board.apply_on_sound(call);
-        *number = answer.map_or_else(|refusal| refusal.number(), |_| 0);
-    }
-    run.calls.len() as u64
-}
-
-#[cfg(all(not(feature = "model-only"), not(feature = "events")))]
-mod proved {
-    pub const RUN_EVENTS: Option<super::RunEvents> = None;
-}
-
-#[cfg(all(not(feature = "model-only"), feature = "events"))]
-mod proved {
-    pub const RUN_EVENTS: Option<super::RunEvents> = Some(run_events);
-
-    mod library {
-        extern "C" {
-            pub fn run_events(
-                input: *const u8,
-                length: usize,
-                numbers: *mut u8,
-                room: usize,
-            ) -> u64;
-        }
-    }
-
-    /// Sound: of any bytes and of a slice it takes the pointer and the length, which it neither keeps nor passes.
-    fn run_events(input: &[u8], numbers: &mut [u8]) -> u64 {
-        let (start, room) = (numbers.as_mut_ptr(), numbers.len());
-        unsafe { library::run_events(input.as_ptr(), input.len(), start, room) }
-    }
-}
 
 impl Side {
     /// A call that does all that `board` does with a run file.
@@ -123,35 +75,22 @@ impl Side {
         })
     }
 
-    /// A call that decodes a run file and does its events; none if this side does not have it.
-    pub fn on_events<'a>(&self, input: &'a [u8]) -> Option<Box<dyn FnMut() + 'a>> {
-        let run_events = self.run_events?;
+    /// A call that decodes a run file and does its events.
+    pub fn on_events<'a>(&self, input: &'a [u8]) -> Box<dyn FnMut() + 'a> {
+        let run_events = self.programs.run_events;
         let mut numbers = vec![0; MAX_EVENTS];
-        Some(Box::new(move || {
+        Box::new(move || {
             black_box(run_events(black_box(input), &mut numbers));
-        }))
+        })
     }
 
     /// Ends the benchmark if this side does not answer as the model does.
     pub fn check(&self, case: &Case) {
         for input in [&case.carried, &case.offered] {
             let compared = programs::compare::compare(&self.programs, input, &mut Prng::new(SEED));
-            if let Err(cause) = compared.and_then(|_| self.compare_events(input)) {
+            if let Err(cause) = compared {
                 panic!("{}, {} sites: {cause}", self.name, case.n);
             }
         }
-    }
-
-    fn compare_events(&self, input: &[u8]) -> Result<(), String> {
-        let Some(run_events) = self.run_events else {
-            return Ok(());
-        };
-        let (mut wanted, mut numbers) = ([255; MAX_EVENTS], [255; MAX_EVENTS]);
-        let count = model_events(input, &mut wanted);
-        let answer = run_events(input, &mut numbers);
-        if (answer, numbers) == (count, wanted) {
-            return Ok(());
-        }
-        Err(format!("run_events answers {answer}, the model {count}"))
     }
 }

@@ -2,3 +2,4 @@
 -- Rests on decoder, printer, drain and machine.
 pub mod Answers
 pub mod Drains
+pub mod Numbers

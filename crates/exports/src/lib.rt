@@ -9,11 +9,21 @@ ghost use Rattle.decoder.specs.RunFile.{eventLimit, eventCount, callsOf};
 ghost use Rattle.printer.specs.Writing.{slicePrinted, answerPrinted};
 ghost use Rattle.runfile.specs.Program.{StaysSound, printed};
 ghost use Rattle.exports.specs.Answers.{countOf};
+ghost use Rattle.machine.specs.ByMask.{taken};
 ghost use Rattle.exports.specs.Drains.{drainedRun, drainedFile};
+ghost use Rattle.exports.specs.Numbers.{numberedFrom, numberedFile};
+use arrays::BYTES;
+use arrays::COUNTS;
+use arrays::SETS;
+use decoder::file::event_count;
 use decoder::file::setup_of;
 use decoder::file::well_formed;
+use flight::LOADS;
+use flight::MASKS;
+use flight::PAIRS;
 use opening::start_refusal;
 use printer::Printed;
+use sets::POSTINGS;
 use site::Setup;
 use statements::settle;
 
@@ -64,6 +74,58 @@ pub extern "C" fn run_drain(input: &[u8], limit: u64, out: &mut [i64]) -> u64
             return NO_COUNT;
         }
         return drain_from(input, setup, limit, out);
+    }
+    NO_COUNT
+}
+
+// The events of a file from the board of its start, the number of each answer at its place; NO_COUNT if the slice has no room for them.
+fn answer_from(input: &[u8], setup: Setup, numbers: &mut [u8]) -> u64
+    requires { ⌜ StaysSound (freshBoard setup) × (eventCount (now input) ≤ eventLimit) ⌝ }
+    ensures { λ r. ⌜ r ≡ numberedFrom (taken (freshBoard setup)) (now (input .entry)) (now (numbers .entry)) .count ⌝ }
+    ensures { λ _. ⌜ now (numbers .exit) ≡ numberedFrom (taken (freshBoard setup)) (now (input .entry)) (now (numbers .entry)) .slice ⌝ }
+{
+    let count = event_count(input);
+    if numbers.len() < count {
+        return NO_COUNT;
+    }
+    let mut words = [0; SETS];
+    let mut counts = [0; COUNTS];
+    let mut bytes = [0; BYTES];
+    let mut amounts = [0; POSTINGS];
+    let mut masks = [0; MASKS];
+    let mut good = [0; PAIRS];
+    let mut carried = [0; LOADS];
+    runfile::run::run_events(
+        &mut words,
+        &mut counts,
+        &mut bytes,
+        &mut amounts,
+        &mut masks,
+        &mut good,
+        &mut carried,
+        setup,
+        input,
+        0,
+        count,
+        numbers,
+    );
+    count as u64
+}
+
+// A run file run, the refusal number of each event's answer in the slice, 0 if it was accepted: the answer is how many they are. NO_COUNT,
+// and the slice as it was, if the file or its start is refused or the slice is shorter than that.
+#[no_mangle]
+pub extern "C" fn run_events(input: &[u8], numbers: &mut [u8]) -> u64
+    ensures { λ r. ⌜ r ≡ numberedFile (now (input .entry)) (now (numbers .entry)) .count ⌝ }
+    ensures { λ _. ⌜ now (numbers .exit) ≡ numberedFile (now (input .entry)) (now (numbers .entry)) .slice ⌝ }
+{
+    if well_formed(input) {
+        let setup = setup_of(input);
+        let refusal = start_refusal(setup.n, setup.f, setup.matrix);
+        if refusal != 0 {
+            return NO_COUNT;
+        }
+        return answer_from(input, setup, numbers);
     }
     NO_COUNT
 }

@@ -197,6 +197,10 @@ module _ (setup : Setup) (input numbers : List ℕ) (count : ℕ) (all : count �
       let long : length (refusals started (callsFrom input 0 count)) ≡ count = omega (arith, refusals-long started (callsFrom input 0 count), calls-long input 0 count) in
       ap (take count) e ∙ take-at (refusals started (callsFrom input 0 count)) (drop count numbers) count long ∙ ap₂ refusals (fresh-shown setup) whole
 
+  -- the numbers of a lent slice, to its end
+  pub fresh-noted : l ≡ noted started (callsFrom input 0 count) 0 count numbers → l ≡ refusals (freshBoard setup) (callsOf input) ++ drop count numbers
+  fresh-noted e = e ∙ ap (λ (r : List ℕ). r ++ drop count numbers) (ap₂ refusals (fresh-shown setup) whole)
+
   pub fresh-long : l ≡ noted started (callsFrom input 0 count) 0 count numbers → count ≤ length numbers → length l ≡ length numbers
   fresh-long e h =
       let r = refusals started (callsFrom input 0 count) in

@@ -1,4 +1,4 @@
-// Holds: programs held to the model on one run file: the text printed, and drains with the books after them.
+// Holds: programs held to the model on one run file: the text printed, the numbers of answers, and drains with the books after them.
 // Rests on: programs, files; the model's generator of numbers.
 
 use crate::files::{numbers, Sort};
@@ -28,6 +28,9 @@ pub fn compare(programs: &Programs, input: &[u8], rng: &mut Prng) -> Result<Comp
     let spare = rng.pick(&[0, 0, 1, 40]);
     same_text(programs, input, &text, spare)?;
     no_room(programs, input, rng.below(text.len() as u64) as usize)?;
+    let events = text.lines().filter(|line| line.starts_with('E')).count();
+    same_numbers(programs, input, events + spare)?;
+    same_numbers(programs, input, events.saturating_sub(1))?;
     let drained = same_drain(programs, input, DRAIN, ROOM)?;
     let mut done = Compared {
         files: 1,
@@ -43,7 +46,7 @@ pub fn compare(programs: &Programs, input: &[u8], rng: &mut Prng) -> Result<Comp
     let short = rng.below(whole as u64) as usize;
     let room = rng.pick(&[whole, whole - 1, short]);
     same_drain(programs, input, limit.min(1), room)?;
-    done.events = text.lines().filter(|line| line.starts_with('E')).count() as u64;
+    done.events = events as u64;
     done.drained = drained;
     Ok(done)
 }
@@ -72,6 +75,23 @@ fn no_room(programs: &Programs, input: &[u8], room: usize) -> Result<(), String>
     match (programs.run_file)(input, &mut out) {
         NONE => Ok(()),
         answer => Err(format!("run_file answers {answer} in {room} bytes")),
+    }
+}
+
+/// The count and the whole slice, in which the numbers are and the rest stays.
+fn same_numbers(programs: &Programs, input: &[u8], room: usize) -> Result<(), String> {
+    let mut wanted = vec![BYTE; room];
+    let count = (MODEL.run_events)(input, &mut wanted);
+    let mut out = vec![BYTE; room];
+    let answer = (programs.run_events)(input, &mut out);
+    if answer != count {
+        return Err(format!(
+            "run_events with room {room} answers {answer}, the model {count}"
+        ));
+    }
+    match (0..room).find(|&at| out[at] != wanted[at]) {
+        Some(at) => Err(format!("run_events differs at event {at}")),
+        None => Ok(()),
     }
 }
 

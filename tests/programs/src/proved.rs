@@ -6,6 +6,7 @@ use crate::programs::Programs;
 pub const PROVED: Programs = Programs {
     run_file,
     run_drain,
+    run_events,
 };
 
 mod library {
@@ -18,10 +19,11 @@ mod library {
             out: *mut i64,
             room: usize,
         ) -> u64;
+        pub fn run_events(input: *const u8, length: usize, numbers: *mut u8, room: usize) -> u64;
     }
 }
 
-// Both functions take any bytes and numbers, and of a slice its pointer and its length, which they neither keep
+// These functions take any bytes and numbers, and of a slice its pointer and its length, which they neither keep
 // nor pass: so each call below is sound.
 
 fn run_file(input: &[u8], out: &mut [u8]) -> u64 {
@@ -32,4 +34,9 @@ fn run_file(input: &[u8], out: &mut [u8]) -> u64 {
 fn run_drain(input: &[u8], limit: u64, out: &mut [i64]) -> u64 {
     let (start, room) = (out.as_mut_ptr(), out.len());
     unsafe { library::run_drain(input.as_ptr(), input.len(), limit, start, room) }
+}
+
+fn run_events(input: &[u8], numbers: &mut [u8]) -> u64 {
+    let (start, room) = (numbers.as_mut_ptr(), numbers.len());
+    unsafe { library::run_events(input.as_ptr(), input.len(), start, room) }
 }

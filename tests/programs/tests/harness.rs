@@ -77,3 +77,22 @@ fn wrong_drains_are_found() {
     };
     found(with(past), "at 450");
 }
+
+#[test]
+fn wrong_numbers_are_found() {
+    let with = |run_events| Programs {
+        run_events,
+        ..MODEL
+    };
+    let count =
+        |input: &[u8], numbers: &mut [u8]| (MODEL.run_events)(input, numbers).saturating_sub(1);
+    found(with(count), "run_events with room");
+    let wrong = |input: &[u8], numbers: &mut [u8]| {
+        let answer = (MODEL.run_events)(input, numbers);
+        if let Some(number) = numbers.last_mut() {
+            *number ^= 1;
+        }
+        answer
+    };
+    found(with(wrong), "run_events differs");
+}
