@@ -3,8 +3,8 @@
 use Prim.Native.Nat.{ℕ, _+_, _-_, _*_, _/_, _%_}
 use mathlib.Core.Bool.{Bool, cond, not, _&&_, _||_}
 use mathlib.Core.List.{List}
-use lib.Dec.{eqb, leb}
-use lib.ListN.{length, getD, drop}
+use lib.Dec.{eqb, ltb, leb}
+use lib.ListN.{length, getD, take, drop}
 use Rattle.sets.specs.Below.{allBelow}
 use Rattle.books.specs.Books.{tabulate}
 use Rattle.site.specs.declared.Setup.{Setup}
@@ -49,9 +49,9 @@ eventCount input = (length input - 9) / 10
 unfoldable pub lengthOk : ℕ → Bool
 lengthOk n = leb 9 n && (eqb ((n - 9) % 10) 0 && leb ((n - 9) / 10) eventLimit)
 
--- the bytes from event k on
+-- the ten bytes of event k
 abbrev pub eventAt : List ℕ → ℕ → List ℕ
-eventAt input k = drop (9 + 10 * k) input
+eventAt input k = take 10 (drop (9 + 10 * k) input)
 
 -- An event is a code, eight bytes, and a cut byte. Codes: 1 offer, 2 receive, 3 order, 4 read, 5 crash.
 abbrev pub codeOf : List ℕ → ℕ
@@ -115,8 +115,9 @@ callOf event =
     (cond (eqb (codeOf event) 4) (Read (byteAt event 1) (cutOf (cutByteOf event)))
     (Crash (byteAt event 1)))))
 
+-- the call of event k; past the last one, a crash of site 0
 unfoldable pub callAt : List ℕ → ℕ → Call
-callAt input k = callOf (eventAt input k)
+callAt input k = cond (ltb k (eventCount input)) (callOf (eventAt input k)) (Crash 0)
 
 -- the calls of all events, in order
 unfoldable pub callsOf : List ℕ → List Call

@@ -16,7 +16,7 @@ pub const EVENTS: usize = 4096;
 // The codes of an event.
 const OFFER: u8 = 1;
 
-const RECEIVE: u8 = 2;
+pub const RECEIVE: u8 = 2;
 
 const ORDER: u8 = 3;
 
@@ -28,7 +28,7 @@ const CRASH: u8 = 5;
 const UNCUT: u8 = 255;
 
 // The byte at a place; past the end, 0.
-fn byte_at(bytes: &[u8], i: usize) -> u8
+pub fn byte_at(bytes: &[u8], i: usize) -> u8
     ensures { λ r. ⌜ r ≡ byteAt (now (bytes .entry)) i ⌝ }
 {
     if bytes.len() <= i {
@@ -171,7 +171,7 @@ fn cut_ok(code: u8, cut: u8) -> bool
 }
 
 // Whether an event has a known code, a cut byte that may be, and zeros in its unused bytes.
-fn event_ok(event: &[u8]) -> bool
+pub fn event_ok(event: &[u8]) -> bool
     ensures { λ r. ⌜ r ≡ eventOk (now (event .entry)) ⌝ }
 {
     let code = byte_at(event, 0);
@@ -192,7 +192,7 @@ fn events_ok(input: &[u8]) -> bool
     let count = event_count(input);
     for k in 0..count {
         let at = HEADER + EVENT * k;
-        if event_ok(&input[at..]) == false {
+        if event_ok(&input[at..at + EVENT]) == false {
             return false;
         }
     }
@@ -225,7 +225,7 @@ pub fn setup_of(input: &[u8]) -> Setup
 }
 
 // What a cut byte says.
-fn cut_of(cut: u8) -> Cut
+pub fn cut_of(cut: u8) -> Cut
     ensures { λ r. ⌜ r ≡ cutOf cut ⌝ }
 {
     if cut == UNCUT {
@@ -277,7 +277,7 @@ fn receive_of(event: &[u8]) -> Call
 }
 
 // The call of an event.
-fn call_of(event: &[u8]) -> Call
+pub fn call_of(event: &[u8]) -> Call
     ensures { λ r. ⌜ r ≡ callOf (now (event .entry)) ⌝ }
 {
     let code = byte_at(event, 0);
@@ -298,16 +298,13 @@ fn call_of(event: &[u8]) -> Call
     Call::Crash { site: field }
 }
 
-// The call of event k; past the last one, of zeros.
+// The call of event k; past the last one, a crash of site 0. The bytes of an event are lent on as ten, so that none is tested for the end.
 pub fn call_at(input: &[u8], k: usize) -> Call
     ensures { λ r. ⌜ r ≡ callAt (now (input .entry)) k ⌝ }
 {
-    if input.len() < HEADER {
-        return Call::Crash { site: 0 };
+    if k < event_count(input) {
+        let at = HEADER + EVENT * k;
+        return call_of(&input[at..at + EVENT]);
     }
-    if (input.len() - HEADER) / EVENT < k {
-        return Call::Crash { site: 0 };
-    }
-    let at = HEADER + EVENT * k;
-    call_of(&input[at..])
+    Call::Crash { site: 0 }
 }

@@ -19,7 +19,7 @@ use Rattle.steps.specs.declared.Call.the-variants.{Receive, Order, Read}
 use Rattle.arrays.specs.Layout.{poolSlot, downAt}
 use Rattle.arrays.specs.Arrays.{Arrays, slotSet, byte}
 use Rattle.arrays.proofs.Slots.{slot-long}
-use Rattle.events.specs.Flat.{Flat, flat, flatPerform, LogFits}
+use Rattle.flat.specs.Flat.{Flat, flat, flatReceive, flatOrder, flatRead, flatPerform, LogFits}
 use Rattle.machine.specs.declared.Board.{Board}
 use Rattle.machine.specs.Soundness.{isSound}
 use Rattle.machine.specs.Runs.{taking}
@@ -68,7 +68,7 @@ module _ (setup : Setup) (board : Board) (limit : ℕ) (a : Arrays) (count floor
   pub few : setup .n ≤ sites
   few = few-sites setup a (w .right) sound
 
-  -- what perform requires
+  -- what a read requires
   pub fits : (setup .n ≤ sites) × LogFits (a .counts) (a .bytes)
   fits = (few, log-fits setup a (w .right) sound)
 
@@ -109,8 +109,9 @@ module _ (setup : Setup) (board : Board) (limit : ℕ) (a : Arrays) (count floor
       receive-spent = spent (Receive form m from to Whole) receives
 
       pub receive-turn :
-          count ≢ limit → (why : ℕ) (after : Arrays) → flat why after ≡ flatPerform setup a (Receive form m from to Whole)
+          count ≢ limit → (why : ℕ) (after : Arrays) → flat why after ≡ flatReceive setup a form m from to Whole
           → (next : ℕ) → next ≡ floorAfter form m from to → Working setup board limit after (count + 1) next
+      unfolding flatPerform
       receive-turn d why after p next e =
           let floored = subst (Floor (taking b (Receive form m from to Whole) .board)) (sym e) (receive-low b g form m from to receives low) in
           turn (Receive form m from to Whole) receives d next floored why after p
@@ -139,7 +140,8 @@ module _ (setup : Setup) (board : Board) (limit : ℕ) (a : Arrays) (count floor
         order-spent = spent (Order first) orders
 
         pub order-turn :
-            count ≢ limit → (why : ℕ) (after : Arrays) → flat why after ≡ flatPerform setup a (Order first) → Working setup board limit after (count + 1) cells
+            count ≢ limit → (why : ℕ) (after : Arrays) → flat why after ≡ flatOrder a first → Working setup board limit after (count + 1) cells
+        unfolding flatPerform
         order-turn d why after p = turn (Order first) orders d cells (order-low b g first orders all-low) why after p
 
       module _ (dry : capacity ≤ first) (reader : ℕ) (e : reader ≡ firstBelow (reads (a .counts) (byte (a .bytes) downAt)) (setup .n)) where
@@ -158,5 +160,6 @@ module _ (setup : Setup) (board : Board) (limit : ℕ) (a : Arrays) (count floor
           read-spent = spent (Read reader Whole) readers
 
           pub read-turn :
-              count ≢ limit → (why : ℕ) (after : Arrays) → flat why after ≡ flatPerform setup a (Read reader Whole) → Working setup board limit after (count + 1) cells
+              count ≢ limit → (why : ℕ) (after : Arrays) → flat why after ≡ flatRead setup a reader Whole → Working setup board limit after (count + 1) cells
+          unfolding flatPerform
           read-turn d why after p = turn (Read reader Whole) readers d cells (read-low b g reader readers all-low) why after p

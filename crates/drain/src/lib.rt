@@ -11,7 +11,9 @@ use arrays::BYTES;
 use arrays::COUNTS;
 use arrays::DOWN;
 use arrays::SETS;
-use events::perform;
+use events::calls::order;
+use events::calls::read;
+use events::receipts::receive;
 use flight::Found;
 use flight::LOADS;
 use flight::MASKS;
@@ -27,7 +29,6 @@ use sets::POSTINGS;
 use shown::quiet::up_mask;
 use site::SITES;
 use site::Setup;
-use steps::Call;
 use steps::Cut;
 
 pub mod next;
@@ -103,22 +104,19 @@ pub fn drain_events(
                 if count == limit {
                     break Ending::Spent;
                 }
-                let why = perform(
+                let why = receive(
                     words,
                     counts,
                     bytes,
-                    amounts,
                     masks,
                     good,
                     carried,
                     setup,
-                    Call::Receive {
-                        form: form,
-                        posting: posting,
-                        from: from,
-                        to: to,
-                        cut: Cut::Whole,
-                    },
+                    form,
+                    posting,
+                    from,
+                    to,
+                    Cut::Whole,
                 );
                 floor = floor_after(form, posting, from, to);
                 count = count + 1;
@@ -130,17 +128,7 @@ pub fn drain_events(
                     if count == limit {
                         break Ending::Spent;
                     }
-                    let why = perform(
-                        words,
-                        counts,
-                        bytes,
-                        amounts,
-                        masks,
-                        good,
-                        carried,
-                        setup,
-                        Call::Order { posting: first },
-                    );
+                    let why = order(words, counts, bytes, first);
                     count = count + 1;
                     continue;
                 }
@@ -152,20 +140,7 @@ pub fn drain_events(
                 if count == limit {
                     break Ending::Spent;
                 }
-                let why = perform(
-                    words,
-                    counts,
-                    bytes,
-                    amounts,
-                    masks,
-                    good,
-                    carried,
-                    setup,
-                    Call::Read {
-                        site: reader,
-                        cut: Cut::Whole,
-                    },
-                );
+                let why = read(words, counts, bytes, setup, reader, Cut::Whole);
                 count = count + 1;
             }
         }

@@ -1,10 +1,5 @@
--- What the proofs of the events share: the ways out of an event, what its passed tests say, and the ways out of each.
--- Rests on the specs.
-pub mod Ways
+-- What the proofs of the calls share: what their passed tests say, and the ways out of each.
+-- Rests on flat.
 pub mod Passed
-pub mod OnFirst
-pub mod OnSecond
-pub mod OnThird
-pub mod OnDeliver
 pub mod OnCalls
 pub mod OnReceive

@@ -22,8 +22,8 @@ use Rattle.arrays.specs.Layout.{poolSlot, countAt, loggedAt, placeAt, downAt, l
 use Rattle.arrays.specs.Arrays.{Arrays, arrays, withSets, withCounts, withBytes, hasIn, dropping, byte, marked}
 use Rattle.index.specs.Index.{indexing}
 use Rattle.delivery.specs.Delivery.{Laid, laid, deliveredEntry}
-use Rattle.events.specs.Flat.{Flat, flat, cutCause, siteCause, entered, flatOffer, logging, flatOrder, entryDeliveredTo, flatRead, flatCrash}
-use Rattle.events.proofs.Ways.{is-refused, goes-on}
+use Rattle.flat.specs.Flat.{Flat, flat, cutCause, siteCause, entered, flatOffer, logging, flatOrder, entryDeliveredTo, flatRead, flatCrash}
+use Rattle.flat.proofs.Ways.{is-refused, goes-on}
 
 -- ---- offer
 

@@ -18,8 +18,8 @@ use Rattle.steps.specs.declared.Cut.{Cut}
 use Rattle.steps.specs.Causes.{firstCause, messageCauses}
 use Rattle.arrays.specs.Layout.{downAt}
 use Rattle.arrays.specs.Arrays.{Arrays, byte}
-use Rattle.events.specs.Flat.{Flat, flat, flatFirst, flatSecond, flatThird, flatDeliver, flatReceive}
-use Rattle.events.proofs.Ways.{is-refused}
+use Rattle.flat.specs.Flat.{Flat, flat, flatFirst, flatSecond, flatThird, flatDeliver, flatReceive}
+use Rattle.flat.proofs.Ways.{is-refused}
 
 -- a message in flight has a place
 pub in-place : (masks : List ℕ) (form m from to : ℕ) → messageIn masks form m from to ≡ true → (m < capacity) × (from < sites) × (to < sites)

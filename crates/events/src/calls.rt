@@ -8,7 +8,7 @@ ghost use Rattle.sets.specs.Sets.{capacity};
 ghost use Rattle.site.specs.Sites.{sites};
 ghost use Rattle.arrays.specs.Arrays.{arrays};
 ghost use Rattle.delivery.specs.Delivery.{laid};
-ghost use Rattle.events.specs.Flat.{flat, entered, flatOffer, logging, flatOrder, entryDeliveredTo, flatRead, flatCrash, LogFits};
+ghost use Rattle.flat.specs.Flat.{flat, entered, flatOffer, logging, flatOrder, entryDeliveredTo, flatRead, flatCrash, LogFits};
 use arrays::BYTES;
 use arrays::COUNTS;
 use arrays::DOWN;

@@ -1,10 +1,10 @@
 // Every event of a board at work, in place over its lent arrays: the code of offer, receive, order, read and crash, whole and cut.
-// Rests on arrays, index and delivery, on steps for refusals and cuts. The answer is 0, or the number of the refusal, and then nothing is changed.
+// Rests on seconds and thirds for receipts, on arrays, index and delivery, on steps for refusals and cuts. The answer is 0, or the number of the refusal, and then nothing is changed.
 ghost use Prim.Native.Nat.{_≤_};
 ghost use mathlib.Core.Path.{_≡_};
 ghost use Rattle.site.specs.Sites.{sites};
 ghost use Rattle.arrays.specs.Arrays.{arrays};
-ghost use Rattle.events.specs.Flat.{flat, flatPerform, LogFits};
+ghost use Rattle.flat.specs.Flat.{flat, flatPerform, LogFits};
 use arrays::BYTES;
 use arrays::COUNTS;
 use arrays::SETS;
@@ -21,11 +21,7 @@ use site::Setup;
 use steps::Call;
 
 pub mod calls;
-pub mod deliver;
-pub mod first;
 pub mod receipts;
-pub mod second;
-pub mod third;
 
 // A call, taken by the board that the arrays are.
 pub fn perform(

@@ -2,7 +2,7 @@
 -- Rests on Flights and CellLaws. Assumes nothing.
 use Prim.Native.Nat.{ℕ, _+_, _*_, _<_, _≤_}
 use mathlib.Core.Path.{_≡_, sym, ap, _∙_}
-use mathlib.Core.Logic.{_⊎_, inl, inr}
+use mathlib.Core.Logic.{inl, inr}
 use mathlib.Core.Bool.{true, false, and-false}
 use mathlib.Core.List.{List}
 use native.Mathlib.Omega.{arith}
@@ -49,24 +49,27 @@ module _ (form m from i : ℕ) (e : i ≡ pairAt m from) where
       let (hm, hf) = pair-found m from (omega arith) in
       cell-in form m from h hm hf ∙ ap (λ (j : ℕ). form * pairs + j) (sym (e ∙ pair-in m from hm hf))
 
--- ---- messages, where i is what `cell` returned
+-- ---- messages: one number out of range, and nothing is in flight
 
-pub no-receiver : (masks : List ℕ) (form m from to : ℕ) → sites ≤ to → messageIn masks form m from to ≡ false
-unfolding messageIn
-no-receiver masks form m from to h = rw (le-ltb to sites h) (and-false (isCell form m from))
-
-module _ (masks : List ℕ) (form m from to i : ℕ) (e : i ≡ cellAt form m from) where
-  pub no-cell : cells ≤ i → messageIn masks form m from to ≡ false
+module _ (masks : List ℕ) (form m from to : ℕ) where
+  pub form-unknown : forms ≤ form → messageIn masks form m from to ≡ false
   unfolding messageIn
-  no-cell h =
-      let f : isCell form m from ≡ false
-      = not-so (isCell form m from) (λ t. let (k, hm, hf) = cell-range form m from t in omega (arith, cell-below form m from k hm hf)) in
-      rw f
+  form-unknown h = rw (le-ltb form forms h)
 
-  pub bit-found : i < cells → to < sites → messageIn masks form m from to ≡ hasBit (getD masks i 0) to
+  pub posting-unknown : capacity ≤ m → messageIn masks form m from to ≡ false
   unfolding messageIn
-  bit-found h k = rw (found (test (isCell form m from)), lt-ltb to sites k, e)
-    where
-      found : (isCell form m from ≡ true) ⊎ (isCell form m from ≡ false) → isCell form m from ≡ true
-      found (inl t) = t
-      found (inr f) = absurd (omega (arith, cell-out form m from f))
+  posting-unknown h = rw (le-ltb m capacity h, and-false (ltb form forms))
+
+  pub sender-unknown : sites ≤ from → messageIn masks form m from to ≡ false
+  unfolding messageIn
+  sender-unknown h = rw (le-ltb from sites h, and-false (ltb m capacity), and-false (ltb form forms))
+
+  pub receiver-unknown : sites ≤ to → messageIn masks form m from to ≡ false
+  unfolding messageIn
+  receiver-unknown h = rw (le-ltb to sites h) (and-false (isCell form m from))
+
+  pub bit-found : form < forms → m < capacity → from < sites → to < sites
+      → messageIn masks form m from to ≡ hasBit (getD masks (form * pairs + (m * sites + from)) 0) to
+  unfolding messageIn
+  bit-found hf hm hs ht =
+      rw (cell-in form m from hf hm hs, lt-ltb form forms hf, lt-ltb m capacity hm, lt-ltb from sites hs, lt-ltb to sites ht)

@@ -3,7 +3,6 @@
 // is not in flight.
 ghost use mathlib.Core.Path.{_≡_};
 ghost use lib.ListN.{take};
-ghost use Rattle.sets.specs.Masks.{hasBit};
 ghost use Rattle.flight.specs.Flights.{cells, pairAt, cellAt, messageIn, setIn, nothingComes, emptyFlight};
 use sets::POSTINGS;
 use sets::Set;
@@ -54,17 +53,6 @@ impl Flight {
     }
 }
 
-// ---- masks of sites
-
-fn has_bit(mask: u8, site: usize) -> bool
-    ensures { λ r. ⌜ r ≡ hasBit mask site ⌝ }
-{
-    if 8 <= site {
-        return false;
-    }
-    (mask >> site) % 2 == 1
-}
-
 // ---- places
 
 // The place of a posting and sender; the number past the last if there is none.
@@ -96,17 +84,24 @@ pub fn cell(form: usize, m: usize, from: usize) -> usize
 
 // ---- what is in flight
 
+// Whether a message is in flight, for any numbers.
 pub fn in_flight(masks: &[u8; MASKS], form: usize, m: usize, from: usize, to: usize) -> bool
     ensures { λ r. ⌜ r ≡ messageIn (now (masks .entry)) form m from to ⌝ }
 {
-    let i = cell(form, m, from);
-    if MASKS <= i {
+    if FORMS <= form {
+        return false;
+    }
+    if POSTINGS <= m {
+        return false;
+    }
+    if SITES <= from {
         return false;
     }
     if SITES <= to {
         return false;
     }
-    has_bit(masks[i], to)
+    let w = masks[form * PAIRS + (m * SITES + from)];
+    (w >> to) % 2 == 1
 }
 
 // The set that the THIRD of m carries.

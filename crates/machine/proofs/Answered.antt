@@ -11,7 +11,7 @@ use Rattle.sets.specs.Truth.{test}
 use Rattle.steps.specs.declared.Cut.{Cut}
 use Rattle.steps.specs.declared.Call.{Call}
 use Rattle.arrays.specs.Arrays.{Arrays}
-use Rattle.events.specs.Flat.{Flat, flat, flatPerform}
+use Rattle.flat.specs.Flat.{Flat, flat, flatPerform}
 use Rattle.steps.specs.Causes.{Cause}
 use Rattle.machine.specs.declared.Board.{Board}
 use Rattle.machine.specs.declared.Outcome.{Outcome}

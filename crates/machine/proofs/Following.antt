@@ -32,7 +32,7 @@ use Rattle.steps.specs.Cuts.{sitesTo, settledTo, downAfter}
 use Rattle.steps.specs.ByMask.{enters, entered}
 use Rattle.arrays.specs.Layout.{poolSlot, entryOf, downAt}
 use Rattle.arrays.specs.Arrays.{Arrays, slotSet, byte}
-use Rattle.events.specs.Flat.{Flat, flat, refusedOr, followed, cutCause}
+use Rattle.flat.specs.Flat.{Flat, flat, refusedOr, followed, cutCause}
 use Rattle.machine.specs.View.{recordOf, Right}
 use Rattle.machine.proofs.Local.{Local, localOf, Follows, Received, sentTo, receipt-shown, right-local, site-record}
 use Rattle.machine.proofs.Stores.{Changes}

@@ -34,7 +34,7 @@ use Rattle.arrays.specs.Layout.{downAt, countAt, kindAt, fromAt, intoAt}
 use Rattle.arrays.specs.Arrays.{Arrays, byte}
 use Rattle.index.specs.Index.{conflictsIn}
 use Rattle.index.proofs.Indexed.{conflicts-right}
-use Rattle.events.specs.Flat.{Flat, flat, cutCause, flatFirst, flatSecond, flatThird, flatDeliver, flatReceive, flatOffer, siteCause}
+use Rattle.flat.specs.Flat.{Flat, flat, cutCause, flatFirst, flatSecond, flatThird, flatDeliver, flatReceive, flatOffer, siteCause}
 use Rattle.machine.specs.declared.Board.{Board}
 use Rattle.machine.specs.declared.Outcome.{Outcome}
 use Rattle.machine.specs.Boards.{siteAt, tallyAt}

@@ -30,7 +30,7 @@ use Rattle.arrays.specs.Layout.{poolSlot, entryOf, kindOf, haveOf, setsLong, co
 use Rattle.arrays.specs.Arrays.{Arrays, slotSet, hasIn, byte}
 use Rattle.arrays.proofs.Slots.{has-slot}
 use Rattle.index.proofs.Indexed.{Indexed}
-use Rattle.events.specs.Flat.{Flat, flat, cutCause}
+use Rattle.flat.specs.Flat.{Flat, flat, cutCause}
 use Rattle.machine.specs.declared.Board.{Board}
 use Rattle.machine.specs.Boards.{siteAt, tallyAt, entryAt, boardFlight, boardDown}
 use Rattle.machine.specs.Calls.{carriedOut}

@@ -28,7 +28,7 @@ use Rattle.arrays.specs.Layout.{gotOf, downAt, ownerAt}
 use Rattle.arrays.specs.Arrays.{Arrays, withSets, withBytes, withMasks, hasIn, adding, byte, marked}
 use Rattle.arrays.proofs.Slots.{has-slot}
 use Rattle.delivery.specs.Delivery.{delivered}
-use Rattle.events.specs.Flat.{Flat, flat, refusedOr, cutCause, consumed, deliveredTo, flatDeliver}
+use Rattle.flat.specs.Flat.{Flat, flat, refusedOr, cutCause, consumed, deliveredTo, flatDeliver}
 use Rattle.machine.specs.Boards.{siteAt, tallyAt}
 use Rattle.machine.specs.View.{recordOf, siteOf, tallyOf, rowOf, view, Right}
 use Rattle.machine.proofs.Local.{Local, localOf, Elsewhere, Follows, Received, elsewhere-then, site-at, tally-at, row-at, right-long, site-record}

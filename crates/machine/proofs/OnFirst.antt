@@ -24,7 +24,7 @@ use Rattle.arrays.specs.Layout.{seenOf, poolSlot}
 use Rattle.arrays.specs.Arrays.{Arrays, withSets, withBytes, slotSet, storing, marked}
 use Rattle.arrays.proofs.Slots.{slot-long, insert-long}
 use Rattle.index.specs.Index.{conflictsIn}
-use Rattle.events.specs.Flat.{flatFirst}
+use Rattle.flat.specs.Flat.{flatFirst}
 use Rattle.machine.specs.Boards.{siteAt, tallyAt}
 use Rattle.machine.specs.View.{recordOf, siteOf, tallyOf, view, Right}
 use Rattle.machine.proofs.Local.{Long, Follows, right-long, site-at, tally-at}

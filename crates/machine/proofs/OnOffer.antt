@@ -35,7 +35,7 @@ use Rattle.arrays.specs.Arrays.{Arrays, withSets, withBytes, withMasks, slotSet
 use Rattle.arrays.proofs.Slots.{has-slot}
 use Rattle.index.specs.Index.{indexing}
 use Rattle.index.proofs.Indexed.{Indexed, indexed-offer, long-indexed, slot-indexed-other}
-use Rattle.events.specs.Flat.{entered}
+use Rattle.flat.specs.Flat.{entered}
 use Rattle.machine.specs.declared.Board.{Board}
 use Rattle.machine.specs.Boards.{siteAt, tallyAt, entryAt, boardDown, boardTable, boardFlight}
 use Rattle.machine.specs.Calls.{carriedOut}

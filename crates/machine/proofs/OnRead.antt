@@ -20,7 +20,7 @@ use Rattle.steps.specs.Cuts.{entryTo, downAfter}
 use Rattle.arrays.specs.Layout.{entryOf, placeAt, loggedAt, downAt, logAt}
 use Rattle.arrays.specs.Arrays.{Arrays, withCounts, withBytes, slotSet, byte, marked}
 use Rattle.delivery.specs.Delivery.{deliveredEntry}
-use Rattle.events.specs.Flat.{flat, cutCause, siteCause, entryDeliveredTo, flatRead}
+use Rattle.flat.specs.Flat.{flat, cutCause, siteCause, entryDeliveredTo, flatRead}
 use Rattle.machine.specs.declared.Board.{Board}
 use Rattle.machine.specs.Boards.{siteAt, tallyAt, entryAt}
 use Rattle.machine.specs.Calls.{carriedOut}

@@ -33,7 +33,7 @@ use Rattle.arrays.specs.Layout.{seenOf, heldOf, steppedOf, poolSlot, ownerAt, h
 use Rattle.arrays.specs.Arrays.{Arrays, withSets, withBytes, withMasks, withGood, withCarried, slotSet, storing, hasIn, byte, marked}
 use Rattle.arrays.proofs.Slots.{slot-long, insert-long, has-slot}
 use Rattle.index.specs.Index.{conflictsIn}
-use Rattle.events.specs.Flat.{consumed, passedSecond, hearing, heardSecond, stepping, carryingTo, joining, holding, steppedSecond, flatSecond, cutCause, refusedOr, flat, followed, Flat}
+use Rattle.flat.specs.Flat.{consumed, passedSecond, hearing, heardSecond, stepping, carryingTo, joining, holding, steppedSecond, flatSecond, cutCause, refusedOr, flat, followed, Flat}
 use Rattle.machine.specs.Boards.{siteAt, tallyAt}
 use Rattle.machine.specs.View.{siteOf, tallyOf, rowOf, view, Right}
 use Rattle.machine.proofs.Local.{Follows, right-long, site-at, tally-at, row-at}

@@ -32,7 +32,7 @@ use Rattle.steps.specs.Cuts.{sitesTo, downAfter}
 use Rattle.arrays.specs.Layout.{finishedOf, poolSlot, unionOf, entryOf, talliedAt, hasAt}
 use Rattle.arrays.specs.Arrays.{Arrays, withSets, withBytes, withMasks, withGood, withCarried, slotSet, storing, hasIn, adding, byte, marked}
 use Rattle.arrays.proofs.Slots.{slot-long, has-slot}
-use Rattle.events.specs.Flat.{consumed, passedThird, tallying, heardThird, finishing, sentThird, entering, pooledThird, settledThird, flatThird, cutCause, refusedOr, flat, followed, Flat}
+use Rattle.flat.specs.Flat.{consumed, passedThird, tallying, heardThird, finishing, sentThird, entering, pooledThird, settledThird, flatThird, cutCause, refusedOr, flat, followed, Flat}
 use Rattle.machine.specs.Boards.{siteAt, tallyAt}
 use Rattle.machine.specs.View.{siteOf, tallyOf, view, Right}
 use Rattle.machine.proofs.Local.{Local, Long, Follows, elsewhere-refl, right-long, site-at, tally-at}

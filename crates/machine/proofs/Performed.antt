@@ -35,7 +35,7 @@ use Rattle.steps.specs.Causes.{firstCause, offerCauses}
 use Rattle.arrays.specs.Layout.{poolSlot, countAt, loggedAt, placeAt, downAt, logAt}
 use Rattle.arrays.specs.Arrays.{Arrays, withSets, withBytes, slotSet, storing, hasIn, dropping, byte, marked}
 use Rattle.arrays.proofs.Slots.{slot-long, has-slot, remove-long, dropping-is}
-use Rattle.events.specs.Flat.{Flat, flat, cutCause, siteCause, flatOffer, logging, flatOrder, flatRead, flatCrash, flatPerform, LogFits}
+use Rattle.flat.specs.Flat.{Flat, flat, cutCause, siteCause, flatOffer, logging, flatOrder, flatRead, flatCrash, flatPerform, LogFits}
 use Rattle.machine.specs.declared.Board.{Board}
 use Rattle.machine.specs.declared.Outcome.{Outcome}
 use Rattle.machine.specs.declared.Answer.the-variants.{Offered}

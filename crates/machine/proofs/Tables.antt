@@ -30,7 +30,7 @@ use Rattle.steps.specs.Cuts.{downAfter}
 use Rattle.arrays.specs.Layout.{downAt, ownerAt, kindAt, fromAt, intoAt, talliedAt, hasAt, logAt, heardAt, goodAt, recordAt, bytesLong, countAt, loggedAt, placeAt, deliveredAt, poolSlot, entryOf}
 use Rattle.arrays.specs.Arrays.{Arrays, withSets, withCounts, withBytes, slotSet, storing, byte, marked}
 use Rattle.arrays.proofs.Slots.{part-ext, part-set}
-use Rattle.events.specs.Flat.{entered, logging}
+use Rattle.flat.specs.Flat.{entered, logging}
 use Rattle.machine.specs.declared.Board.{Board}
 use Rattle.machine.specs.Boards.{siteAt, tallyAt, entryAt, boardDown, boardPool, boardTable}
 use Rattle.machine.specs.View.{recordOf, siteOf, tallyOf, rowOf, tableOf, logOf, view, Right}

@@ -40,6 +40,18 @@ decimal-more (suc n) h =
     let m = suc n / 10 in
     rw (le-ltb (suc n) 10 h) (ap (λ (l : List ℕ). l ++ (lastDigit (suc n) ∷ [])) (digits-enough m n m (omega arith) (omega arith)))
 
+-- two digits at a time
+pub decimal-two : (n : ℕ) → 10 ≤ n → n < 100 → lastDigit (n / 10) ∷ lastDigit n ∷ [] ≡ decimal n
+decimal-two n h k = ap (λ (l : List ℕ). l ++ (lastDigit n ∷ [])) (decimal-last (n / 10) (omega arith)) ∙ decimal-more n h
+
+pub decimal-hundreds : (n : ℕ) → 100 ≤ n → decimal (n / 100) ++ (lastDigit (n / 10) ∷ lastDigit n ∷ []) ≡ decimal n
+decimal-hundreds n h =
+    let ten : n / 100 ≡ n / 10 / 10 = omega arith in
+    let more : decimal (n / 100) ++ (lastDigit (n / 10) ∷ []) ≡ decimal (n / 10) = rw ten (decimal-more (n / 10) (omega arith)) in
+    sym (append-assoc (decimal (n / 100)) (lastDigit (n / 10) ∷ []) (lastDigit n ∷ []))
+    ∙ ap (λ (l : List ℕ). l ++ (lastDigit n ∷ [])) more
+    ∙ decimal-more n (omega arith)
+
 -- ---- lines and items with one more
 
 lines-last : (l : List ℕ) (k r : ℕ) → eventLines k (l ++ (r ∷ [])) ≡ eventLines k l ++ eventLine (k + length l + 1) r

@@ -1,5 +1,6 @@
 // What `board` prints, written into a lent slice: the lines of a finished run, or the line of a refusal.
 // Rests on site for masks, posting for records. A place past the slice is counted and nothing is put there.
+ghost use Prim.Native.Nat.{_/_, _<_};
 ghost use mathlib.Core.Path.{_≡_};
 ghost use mathlib.Core.Bool.{cond};
 ghost use mathlib.Core.List.{[], _∷_, _++_};
@@ -70,16 +71,49 @@ fn last_digit(x: usize) -> u8
     48 + (x % 10) as u8
 }
 
-// A number in base ten.
-pub fn put_number(x: usize, at: usize, out: &mut [u8]) -> usize
+// A number in base ten, of any length.
+fn put_long(x: usize, at: usize, out: &mut [u8]) -> usize
     ensures { λ r. ⌜ Put (decimal x) at (now (out .entry)) (now (out .exit)) r ⌝ }
 {
     let digit = last_digit(x);
     if x < 10 {
         return put(digit, at, out);
     }
-    let place = put_number(x / 10, at, out);
+    let place = put_long(x / 10, at, out);
     put(digit, place, out)
+}
+
+// The last two digits of a number.
+fn put_two(x: usize, at: usize, out: &mut [u8]) -> usize
+    ensures { λ r. ⌜ Put (lastDigit (x / 10) ∷ lastDigit x ∷ []) at (now (out .entry)) (now (out .exit)) r ⌝ }
+{
+    let place = put(last_digit(x / 10), at, out);
+    put(last_digit(x), place, out)
+}
+
+// A number of one digit or two.
+fn put_short(x: usize, at: usize, out: &mut [u8]) -> usize
+    requires { ⌜ x < 100 ⌝ }
+    ensures { λ r. ⌜ Put (decimal x) at (now (out .entry)) (now (out .exit)) r ⌝ }
+{
+    if x < 10 {
+        return put(last_digit(x), at, out);
+    }
+    put_two(x, at, out)
+}
+
+// A number in base ten. Those that a run's lines have are of four digits at most.
+pub fn put_number(x: usize, at: usize, out: &mut [u8]) -> usize
+    ensures { λ r. ⌜ Put (decimal x) at (now (out .entry)) (now (out .exit)) r ⌝ }
+{
+    if x < 100 {
+        return put_short(x, at, out);
+    }
+    if x < MOST_EVENTS {
+        let place = put_short(x / 100, at, out);
+        return put_two(x, place, out);
+    }
+    put_long(x, at, out)
 }
 
 // E: the event's number, and its answer as the number of a refusal, 0 if it was accepted.

@@ -1,5 +1,6 @@
 -- What the proofs of runfile share, and the evaluated case.
 -- Assumes nothing.
+pub mod Events
 pub mod Runs
 pub mod Programs
 pub mod Fits

@@ -17,7 +17,7 @@ use Rattle.site.specs.declared.Site.{Site}
 use Rattle.site.specs.Sites.{sites}
 use Rattle.arrays.specs.Layout.{downAt}
 use Rattle.arrays.specs.Arrays.{Arrays, byte}
-use Rattle.events.specs.Flat.{Flat, flat, flatPerform}
+use Rattle.flat.specs.Flat.{Flat, flat, flatPerform}
 use Rattle.machine.specs.declared.Board.{Board}
 use Rattle.steps.specs.declared.Call.{Call}
 use Rattle.machine.specs.declared.Outcome.{Outcome}
@@ -120,13 +120,13 @@ module _ (start : Board) (input numbers : List ℕ) (first k : ℕ) (from : firs
 
   -- the event on the arrays of the board that the part so far has left
   pub event-more :
-      (setup : Setup) (a d : Arrays) (l : List ℕ) (x : ℕ) (call : Call) → StaysSound start → Right a → view setup a ≡ running start calls
-      → l ≡ noted start calls first k numbers → call ≡ callAt input k → flat x d ≡ flatPerform setup a call
+      (setup : Setup) (a d : Arrays) (l : List ℕ) (x : ℕ) → StaysSound start → Right a → view setup a ≡ running start calls
+      → l ≡ noted start calls first k numbers → flat x d ≡ flatPerform setup a (callAt input k)
       → Right d × (view setup d ≡ running start more) × (set l k x ≡ noted start more first (k + 1) numbers)
-  event-more setup a d l x call stays ok v n c e =
+  event-more setup a d l x stays ok v n e =
       let sound : isSound (view setup a) ≡ true = rw v (stays calls) in
-      let g = perform-gives setup a ok sound call in
-      let is : taking (view setup a) call ≡ taking (running start calls) (callAt input k) = ap₂ taking v c in (
+      let g = perform-gives setup a ok sound (callAt input k) in
+      let is : taking (view setup a) (callAt input k) ≡ taking (running start calls) (callAt input k) = ap (λ (b : Board). taking b (callAt input k)) v in (
         rw (ap (λ (r : Flat). r .arrays) e) (g .right),
         ap (λ (r : Flat). view setup (r .arrays)) e ∙ g .shown ∙ ap (λ (o : Outcome). o .board) is ∙ sym run-more,
         stored-more l x n (ap (λ (r : Flat). r .answer) e ∙ g .answer ∙ ap (λ (o : Outcome). refusalOf (o .answer)) is),
@@ -175,9 +175,9 @@ module _ (setup : Setup) (input numbers : List ℕ) (first last : ℕ) where
 
   pub ran-more :
       {start : Board} {k : ℕ} {a : Arrays} {l : List ℕ} → StaysSound start → last ≤ length numbers → Ran setup start input numbers first last k a l → k < last
-      → (d : Arrays) (x : ℕ) (call : Call) → call ≡ callAt input k → flat x d ≡ flatPerform setup a call → Ran setup start input numbers first last (k + 1) d (set l k x)
-  ran-more {start} {k} {a} {l} stays room r h d x call c e =
-      let more = event-more start input numbers first k (r .from) (omega arith) setup a d l x call stays (r .right) (r .shown) (r .answered) c e in
+      → (d : Arrays) (x : ℕ) → flat x d ≡ flatPerform setup a (callAt input k) → Ran setup start input numbers first last (k + 1) d (set l k x)
+  ran-more {start} {k} {a} {l} stays room r h d x e =
+      let more = event-more start input numbers first k (r .from) (omega arith) setup a d l x stays (r .right) (r .shown) (r .answered) e in
       record { from = omega (arith, r .from); upto = omega arith; right = more .0; shown = more .1; answered = more .2 }
 
 -- ---- from the board of a start

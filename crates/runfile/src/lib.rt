@@ -14,6 +14,7 @@ use machine::taking::log_of;
 use printer::Ended;
 use shown::figures::records_of;
 
+pub mod event;
 pub mod run;
 
 // What is shown of a board at work of n sites, of which it is known whether it is quiet.

@@ -14,15 +14,14 @@ ghost use Rattle.runfile.specs.Program.{StaysSound, refusals, printedRun
 ghost use Rattle.runfile.specs.Parts.{callsFrom};
 ghost use Rattle.printer.specs.Writing.{slicePrinted, answerPrinted};
 use crate::ended_on;
+use crate::event::perform_at;
 use arrays::BYTES;
 use arrays::COUNTS;
 use arrays::SETS;
 use decoder::file::EVENTS;
-use decoder::file::call_at;
 use decoder::file::event_count;
 use decoder::file::setup_of;
 use decoder::file::well_formed;
-use events::perform;
 use flight::LOADS;
 use flight::MASKS;
 use flight::PAIRS;
@@ -74,8 +73,7 @@ pub fn run_events(
     ensures { λ _. ⌜ now (numbers .exit) ≡ take first (now (numbers .entry)) ++ (refusals (view setup (arrays (now (words .entry)) (now (counts .entry)) (now (bytes .entry)) (now (amounts .entry)) (now (masks .entry)) (now (good .entry)) (now (carried .entry)))) (callsFrom (now (input .entry)) first last) ++ drop last (now (numbers .entry))) ⌝ }
 {
     for k in first..last {
-        let call = call_at(input, k);
-        numbers[k] = perform(
+        numbers[k] = perform_at(
             words,
             counts,
             bytes,
@@ -84,7 +82,8 @@ pub fn run_events(
             good,
             carried,
             setup,
-            call,
+            input,
+            k,
         );
     }
 }

@@ -100,16 +100,16 @@ impl Setup {
         n <= f + count
     }
 
-    // Whether a site is already heard, or n - f are, or the posting is done with.
+    // Whether a site is already heard, or n - f are, or the posting is done with. The last, the cheapest to tell, is asked first.
     pub fn late(self, heard: u8, from: u8, done: bool) -> bool
         ensures { λ r. ⌜ r ≡ late self heard from done ⌝ }
     {
+        if done {
+            return true;
+        }
         if has_site(heard, from) {
             return true;
         }
-        if self.reached(heard) {
-            return true;
-        }
-        done
+        self.reached(heard)
     }
 }

@@ -4,30 +4,22 @@ use Rattle.arrays.specs.Arrays.{hasIn}
 use borrow.Author.Needs.{needs}
 use Rattle.arrays.proofs.has_in.Statement.{statement}
 use Rattle.arrays.proofs.has_in.Tie as tie
-use Rattle.arrays.proofs.has_in.Reads as reads
-use Rattle.arrays.proofs.has_in.Lts as lts
 
--- src/lib.rt:55:13
 mul-i : tie.Need-mul-i
 mul-i c = search needs
 
--- src/lib.rt:55:13
 add-i : tie.Need-add-i
 add-i c = search needs
 
--- src/lib.rt:56:13
 mul-w : tie.Need-mul-w
 mul-w c = search needs
 
--- src/lib.rt:56:13
 element-copy-out-w : tie.Need-element-copy-out-w
 element-copy-out-w c = search needs
 
--- src/lib.rt:57:6
 shr-result : tie.Need-shr-result
 shr-result c = search needs
 
--- src/lib.rt:51:1
 returns : tie.Need-returns
 unfolding hasIn hasBit
 returns c =

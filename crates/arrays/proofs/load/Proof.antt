@@ -11,9 +11,6 @@ use Rattle.arrays.specs.Arrays.{slotSet}
 use Rattle.flight.proofs.Loads.{read-step, read-end}
 use Rattle.arrays.proofs.load.Statement.{statement}
 use Rattle.arrays.proofs.load.Tie as tie
-use Rattle.arrays.proofs.load.Reads as reads
-use Rattle.arrays.proofs.load.Lts as lts
-use Rattle.sets.proofs.Set.empty.Reads as empty-reads
 
 abbrev Inv-loop : tie.InvT-loop
 Inv-loop W slot s₀ k₀ s k = (k ≤ words) × (s .words ≡ wordsFrom W (words * slot) k ++ drop k (emptySet .words))
@@ -21,48 +18,37 @@ Inv-loop W slot s₀ k₀ s k = (k ≤ words) × (s .words ≡ wordsFrom W (word
 abbrev μ-loop : tie.MeasureT-loop
 μ-loop W slot s₀ k₀ s k = words - k
 
--- src/lib.rt:92:17
 empty-requires : tie.Need-empty-requires Inv-loop μ-loop
 empty-requires c κs = search needs
 
--- src/lib.rt:93:5
 loop-holds : tie.Need-loop-holds Inv-loop μ-loop
 unfolding wordsFrom
 loop-holds c = (search needs, ap (λ (s : Set). s .words) (c .empty .ensures))
 
--- src/lib.rt:94:28
 mul-s : tie.Need-mul-s Inv-loop μ-loop
 mul-s c = search needs
 
--- src/lib.rt:94:28
 add-s : tie.Need-add-s Inv-loop μ-loop
 add-s c = search needs
 
--- src/lib.rt:94:22
 mul-s-2 : tie.Need-mul-s-2 Inv-loop μ-loop
 mul-s-2 c = search needs
 
--- src/lib.rt:94:22
 element-copy-out-s : tie.Need-element-copy-out-s Inv-loop μ-loop
 element-copy-out-s c = search needs
 
--- src/lib.rt:94:9
 mul-s-3 : tie.Need-mul-s-3 Inv-loop μ-loop
 mul-s-3 c = search needs
 
--- src/lib.rt:94:9
 element-write-s : tie.Need-element-write-s Inv-loop μ-loop
 element-write-s c = search needs
 
--- src/lib.rt:93:9
 add-k : tie.Need-add-k Inv-loop μ-loop
 add-k c = search needs
 
--- src/lib.rt:93:5
 loop-less : tie.Need-loop-less Inv-loop μ-loop
 loop-less c = search needs
 
--- src/lib.rt:93:5
 loop-again : tie.Need-loop-again Inv-loop μ-loop
 loop-again c =
     let at = c .before .before .loop in
@@ -70,7 +56,6 @@ loop-again c =
     let more : at .k < length (emptySet .words) = omega arith in
     (search needs, read-step (args .words .now) (emptySet .words) (words * args .slot) (at .k) _ more (at .inv .1))
 
--- src/lib.rt:88:1
 returns : tie.Need-returns Inv-loop μ-loop
 unfolding slotSet
 returns c =

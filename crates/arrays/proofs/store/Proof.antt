@@ -9,8 +9,6 @@ use Rattle.arrays.specs.Arrays.{storing}
 use Rattle.flight.proofs.Loads.{store-step, store-end}
 use Rattle.arrays.proofs.store.Statement.{statement}
 use Rattle.arrays.proofs.store.Tie as tie
-use Rattle.arrays.proofs.store.Reads as reads
-use Rattle.arrays.proofs.store.Lts as lts
 
 abbrev Inv-loop : tie.InvT-loop
 Inv-loop W₀ slot s k₀ W k = (k ≤ words) × (W ≡ sets W₀ (words * slot) (take k (s .words)))
@@ -18,43 +16,33 @@ Inv-loop W₀ slot s k₀ W k = (k ≤ words) × (W ≡ sets W₀ (words * slot)
 abbrev μ-loop : tie.MeasureT-loop
 μ-loop W₀ slot s k₀ W k = words - k
 
--- src/lib.rt:104:5
 loop-holds : tie.Need-loop-holds Inv-loop μ-loop
 loop-holds c = (search needs, refl)
 
--- src/lib.rt:105:35
 mul-words : tie.Need-mul-words Inv-loop μ-loop
 mul-words c = search needs
 
--- src/lib.rt:105:35
 element-copy-out-words : tie.Need-element-copy-out-words Inv-loop μ-loop
 element-copy-out-words c = search needs
 
--- src/lib.rt:105:15
 mul-words-2 : tie.Need-mul-words-2 Inv-loop μ-loop
 mul-words-2 c = search needs
 
--- src/lib.rt:105:15
 add-words : tie.Need-add-words Inv-loop μ-loop
 add-words c = search needs
 
--- src/lib.rt:105:9
 mul-words-3 : tie.Need-mul-words-3 Inv-loop μ-loop
 mul-words-3 c = search needs
 
--- src/lib.rt:105:9
 element-write-words : tie.Need-element-write-words Inv-loop μ-loop
 element-write-words c = search needs
 
--- src/lib.rt:104:9
 add-k : tie.Need-add-k Inv-loop μ-loop
 add-k c = search needs
 
--- src/lib.rt:104:5
 loop-less : tie.Need-loop-less Inv-loop μ-loop
 loop-less c = search needs
 
--- src/lib.rt:104:5
 loop-again : tie.Need-loop-again Inv-loop μ-loop
 loop-again c =
     let at = c .before .before .loop in
@@ -63,7 +51,6 @@ loop-again c =
     let more : at .k < length (s .words) = omega arith in
     (search needs, store-step _ (s .words) _ (at .k) _ more (at .inv .1))
 
--- src/lib.rt:100:1
 returns : tie.Need-returns Inv-loop μ-loop
 unfolding storing
 returns c =

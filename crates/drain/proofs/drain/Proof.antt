@@ -5,27 +5,19 @@ use Rattle.drain.specs.Drain.{drained}
 use borrow.Author.Needs.{needs}
 use Rattle.drain.proofs.drain.Statement.{statement}
 use Rattle.drain.proofs.drain.Tie as tie
-use Rattle.drain.proofs.drain.Reads as reads
-use Rattle.drain.proofs.drain.Lts as lts
-use Rattle.drain.proofs.drain_board.Reads as drain-board-reads
-use Rattle.machine.proofs.Board.is_sound.Reads as is-sound-reads
 
--- src/lib.rt:219:8
 is-sound-requires : tie.Need-is-sound-requires
 is-sound-requires c κs = search needs
 
--- src/lib.rt:220:9
 drain-board-requires : tie.Need-drain-board-requires
 drain-board-requires c κs = sym (c .before .is-sound .ensures) ∙ c .if1 .taken
 
--- src/lib.rt:220:9
 returns : tie.Need-returns
 unfolding drained
 returns c =
     let at = c .before .before in
     rw (sym (at .is-sound .ensures) ∙ c .before .if1 .taken) (c .drain-board .ensures)
 
--- src/lib.rt:216:1
 returns-2 : tie.Need-returns-2
 unfolding drained
 returns-2 c = rw (sym (c .before .is-sound .ensures) ∙ c .if1 .left)

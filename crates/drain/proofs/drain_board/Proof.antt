@@ -11,17 +11,10 @@ use Rattle.drain.proofs.Loop.{handed-back}
 use borrow.Author.Needs.{needs}
 use Rattle.drain.proofs.drain_board.Statement.{statement}
 use Rattle.drain.proofs.drain_board.Tie as tie
-use Rattle.drain.proofs.drain_board.Reads as reads
-use Rattle.drain.proofs.drain_board.Lts as lts
-use Rattle.drain.proofs.drain_events.Reads as drain-events-reads
-use Rattle.machine.proofs.laying.lay_out.Reads as lay-out-reads
-use Rattle.machine.proofs.taking.board_of.Reads as board-of-reads
 
--- src/lib.rt:193:5
 lay-out-requires : tie.Need-lay-out-requires
 lay-out-requires c κs = search needs
 
--- src/lib.rt:194:9
 drain-events-requires : tie.Need-drain-events-requires
 drain-events-requires c κs =
     let laid = c .before .before .before .before .before .before .before .lay-out .ensures in
@@ -31,11 +24,9 @@ drain-events-requires c κs =
     let good : GoodIf false b = record { shape = shape; sound = sound-facts b (shape .flight .masks .long) (start .pre); blank = λ e. absurd (never e refl) } in
     (laid .1, rw (laid .0) good)
 
--- src/lib.rt:205:9
 board-of-requires : tie.Need-board-of-requires
 board-of-requires c κs = search needs
 
--- src/lib.rt:180:1
 returns : tie.Need-returns
 returns c =
     let laid = c .before .before .before .before .before .before .before .before .before .before .before .before .before .lay-out .ensures in

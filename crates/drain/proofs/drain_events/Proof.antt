@@ -20,25 +20,25 @@ up-mask-requires c κs = search needs
 enum-known-found : tie.Need-enum-known-found Inv-loop2 μ-loop2 Inv-search μ-search Inv-loop μ-loop
 enum-known-found c = search needs
 
-perform-requires : tie.Need-perform-requires Inv-loop2 μ-loop2 Inv-search μ-search Inv-loop μ-loop
-perform-requires c κs = fits _ _ _ _ _ _ (c .before .before .before .before .before .before .before .before .before .before .before .before .before .before .before .loop .inv)
+receive-requires : tie.Need-receive-requires Inv-loop2 μ-loop2 Inv-search μ-search Inv-loop μ-loop
+receive-requires c κs = search needs
 
 floor-after-requires : tie.Need-floor-after-requires Inv-loop2 μ-loop2 Inv-search μ-search Inv-loop μ-loop
 floor-after-requires c κs = search needs
 
 add-count : tie.Need-add-count Inv-loop2 μ-loop2 Inv-search μ-search Inv-loop μ-loop
 add-count c =
-    let at = c .before .before .before .before .before .before .before .before .before .before .before .before .before .before .before .before .before in
-    omega (arith, at .loop .inv .going .within, c .before .before .before .before .before .before .before .before .before .if3 .left, at .before .fits .limit .fits)
+    let at = c .before .before .before .before .before .before .before .before .before .before .before .before .before .before .before .before in
+    omega (arith, at .loop .inv .going .within, c .before .before .before .before .before .before .before .before .if3 .left, at .before .fits .limit .fits)
 
 loop-less : tie.Need-loop-less Inv-loop2 μ-loop2 Inv-search μ-search Inv-loop μ-loop
-loop-less c = omega (arith, c .before .before .before .before .before .before .before .before .before .before .before .before .before .before .before .before .before .loop .inv .going .within, c .before .before .before .before .before .before .before .before .before .if3 .left)
+loop-less c = omega (arith, c .before .before .before .before .before .before .before .before .before .before .before .before .before .before .before .before .loop .inv .going .within, c .before .before .before .before .before .before .before .before .if3 .left)
 
 loop-again : tie.Need-loop-again Inv-loop2 μ-loop2 Inv-search μ-search Inv-loop μ-loop
 loop-again c =
-    let at = c .before .before .before .before .before .before .before .before .before .before .before in
+    let at = c .before .before .before .before .before .before .before .before .before .before in
     receive-turn _ _ _ _ _ _ (at .before .before .before .before .before .before .loop .inv) _ (at .before .before .before .before .up-mask .ensures) _ _ _ _ (found-message at)
-    (c .before .before .before .before .before .before .before .before .before .if3 .left) _ _ (c .before .perform .ensures) _ (c .floor-after .ensures)
+    (c .before .before .before .before .before .before .before .before .if3 .left) _ _ (c .before .receive .ensures _) _ (c .floor-after .ensures)
 
 enum-told : tie.Need-enum-told Inv-loop2 μ-loop2 Inv-search μ-search Inv-loop μ-loop
 enum-told c = search needs
@@ -46,22 +46,22 @@ enum-told c = search needs
 lowest-pooled-requires : tie.Need-lowest-pooled-requires Inv-loop2 μ-loop2 Inv-search μ-search Inv-loop μ-loop
 lowest-pooled-requires c κs = search needs
 
-perform-requires-2 : tie.Need-perform-requires-2 Inv-loop2 μ-loop2 Inv-search μ-search Inv-loop μ-loop
-perform-requires-2 c κs = fits _ _ _ _ _ _ (c .before .before .before .before .before .before .before .before .before .before .before .before .before .before .before .before .before .loop .inv)
+order-requires : tie.Need-order-requires Inv-loop2 μ-loop2 Inv-search μ-search Inv-loop μ-loop
+order-requires c κs = search needs
 
 add-count-2 : tie.Need-add-count-2 Inv-loop2 μ-loop2 Inv-search μ-search Inv-loop μ-loop
 add-count-2 c =
-    let at = c .before .before .before .before .before .before .before .before .before .before .before .before .before .before .before .before .before .before in
-    omega (arith, at .loop .inv .going .within, c .before .before .before .before .before .before .before .before .if5 .left, at .before .fits .limit .fits)
+    let at = c .before .before .before .before .before .before .before .before .before .before .before .before .before .before in
+    omega (arith, at .loop .inv .going .within, c .before .before .before .before .if5 .left, at .before .fits .limit .fits)
 
 loop-less-2 : tie.Need-loop-less-2 Inv-loop2 μ-loop2 Inv-search μ-search Inv-loop μ-loop
-loop-less-2 c = omega (arith, c .before .before .before .before .before .before .before .before .before .before .before .before .before .before .before .before .before .before .loop .inv .going .within, c .before .before .before .before .before .before .before .before .if5 .left)
+loop-less-2 c = omega (arith, c .before .before .before .before .before .before .before .before .before .before .before .before .before .before .loop .inv .going .within, c .before .before .before .before .if5 .left)
 
 loop-again-2 : tie.Need-loop-again-2 Inv-loop2 μ-loop2 Inv-search μ-search Inv-loop μ-loop
 loop-again-2 c =
-    let at = c .before .before .before .before .before .before .before .before .before .before in
+    let at = c .before .before .before .before .before .before in
     order-turn _ _ _ _ _ _ (at .before .before .before .before .before .before .before .before .loop .inv) _ (at .before .before .before .before .before .before .up-mask .ensures) (found-nothing at) _ (at .lowest-pooled .ensures)
-    (c .before .before .before .before .before .before .before .before .before .if4 .taken) (c .before .before .before .before .before .before .before .before .if5 .left) _ _ (c .perform2 .ensures)
+    (c .before .before .before .before .before .if4 .taken) (c .before .before .before .before .if5 .left) _ _ (c .order .ensures _ _ _ _)
 
 element-copy-out-next-reader : tie.Need-element-copy-out-next-reader Inv-loop2 μ-loop2 Inv-search μ-search Inv-loop μ-loop
 element-copy-out-next-reader c = search needs
@@ -72,22 +72,22 @@ next-reader-requires c κs = few _ _ _ _ _ _ (c .before .before .before .before 
 cast-n : tie.Need-cast-n Inv-loop2 μ-loop2 Inv-search μ-search Inv-loop μ-loop
 cast-n c = search needs
 
-perform-requires-3 : tie.Need-perform-requires-3 Inv-loop2 μ-loop2 Inv-search μ-search Inv-loop μ-loop
-perform-requires-3 c κs = fits _ _ _ _ _ _ (c .before .before .before .before .before .before .before .before .before .before .before .before .before .before .before .before .before .before .before .before .before .before .loop .inv)
+read-requires : tie.Need-read-requires Inv-loop2 μ-loop2 Inv-search μ-search Inv-loop μ-loop
+read-requires c κs = fits _ _ _ _ _ _ (c .before .before .before .before .before .before .before .before .before .before .before .before .before .before .before .before .before .before .loop .inv)
 
 add-count-3 : tie.Need-add-count-3 Inv-loop2 μ-loop2 Inv-search μ-search Inv-loop μ-loop
 add-count-3 c =
-    let at = c .before .before .before .before .before .before .before .before .before .before .before .before .before .before .before .before .before .before .before .before .before .before .before in
-    omega (arith, at .loop .inv .going .within, c .before .before .before .before .before .before .before .before .if7 .left, at .before .fits .limit .fits)
+    let at = c .before .before .before .before .before .before .before .before .before .before .before .before .before .before .before .before .before .before .before in
+    omega (arith, at .loop .inv .going .within, c .before .before .before .before .if7 .left, at .before .fits .limit .fits)
 
 loop-less-3 : tie.Need-loop-less-3 Inv-loop2 μ-loop2 Inv-search μ-search Inv-loop μ-loop
-loop-less-3 c = omega (arith, c .before .before .before .before .before .before .before .before .before .before .before .before .before .before .before .before .before .before .before .before .before .before .before .loop .inv .going .within, c .before .before .before .before .before .before .before .before .if7 .left)
+loop-less-3 c = omega (arith, c .before .before .before .before .before .before .before .before .before .before .before .before .before .before .before .before .before .before .before .loop .inv .going .within, c .before .before .before .before .if7 .left)
 
 loop-again-3 : tie.Need-loop-again-3 Inv-loop2 μ-loop2 Inv-search μ-search Inv-loop μ-loop
 loop-again-3 c =
-    let at = c .before .before .before .before .before .before .before .before .before .before .before .before .before .before .before in
+    let at = c .before .before .before .before .before .before .before .before .before .before .before in
     read-turn _ _ _ _ _ _ (at .before .before .before .before .before .before .before .before .loop .inv) _ (at .before .before .before .before .before .before .up-mask .ensures) (found-nothing at) _ (at .lowest-pooled .ensures)
-    (c .before .before .before .before .before .before .before .before .before .before .before .before .before .before .if4 .left) _ (c .before .before .before .before .before .before .before .before .before .before .before .next-reader .ensures) (c .before .before .before .before .before .before .before .before .before .if6 .left) (c .before .before .before .before .before .before .before .before .if7 .left) _ _ (c .perform3 .ensures)
+    (c .before .before .before .before .before .before .before .before .before .before .if4 .left) _ (c .before .before .before .before .before .before .before .next-reader .ensures) (c .before .before .before .before .before .if6 .left) (c .before .before .before .before .if7 .left) _ _ (c .read .ensures _ _ _ _)
 
 returns : tie.Need-returns Inv-loop2 μ-loop2 Inv-search μ-search Inv-loop μ-loop
 returns c =
@@ -137,21 +137,21 @@ drain-events-spec =
     search-less-2
     search-again-2
     enum-known-found
-    perform-requires
+    receive-requires
     floor-after-requires
     add-count
     loop-less
     loop-again
     enum-told
     lowest-pooled-requires
-    perform-requires-2
+    order-requires
     add-count-2
     loop-less-2
     loop-again-2
     element-copy-out-next-reader
     next-reader-requires
     cast-n
-    perform-requires-3
+    read-requires
     add-count-3
     loop-less-3
     loop-again-3

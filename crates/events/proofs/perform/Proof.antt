@@ -1,86 +1,64 @@
 -- `perform` meets its contract.
 -- Assumes nothing.
-use Rattle.events.specs.Flat.{flatPerform}
+use Rattle.flat.specs.Flat.{flatPerform}
 use borrow.Author.Needs.{needs}
 use Rattle.events.proofs.perform.Statement.{statement}
 use Rattle.events.proofs.perform.Tie as tie
-use Rattle.events.proofs.perform.Reads as reads
-use Rattle.events.proofs.perform.Lts as lts
-use Rattle.events.proofs.calls.crash.Reads as crash-reads
-use Rattle.events.proofs.calls.offer.Reads as offer-reads
-use Rattle.events.proofs.calls.order.Reads as order-reads
-use Rattle.events.proofs.calls.read.Reads as read-reads
-use Rattle.events.proofs.receipts.receive.Reads as receive-reads
 
--- src/lib.rt:47:13
 enum-known-call : tie.Need-enum-known-call
 enum-known-call c = search needs
 
--- src/lib.rt:54:13
 offer-requires : tie.Need-offer-requires
 offer-requires c κs = search needs
 
--- src/lib.rt:54:13
 returns : tie.Need-returns
 unfolding flatPerform
 returns c =
     let g = c .before .before .before .before .before .before .before .before .before .args in
     rw (c .before .before .before .before .before .before .before .call .given .1) (c .offer .ensures (g .good .now) (g .carried .now))
 
--- src/lib.rt:70:13
 enum-known-call-2 : tie.Need-enum-known-call-2
 enum-known-call-2 c = search needs
 
--- src/lib.rt:76:13
 receive-requires : tie.Need-receive-requires
 receive-requires c κs = search needs
 
--- src/lib.rt:76:13
 returns-2 : tie.Need-returns-2
 unfolding flatPerform
 returns-2 c =
     let g = c .before .before .before .before .before .before .before .before .before .before .args in
     rw (c .before .before .before .before .before .before .before .before .call2 .given .1) (c .receive .ensures (g .amounts .now))
 
--- src/lib.rt:91:23
 enum-known-call-3 : tie.Need-enum-known-call-3
 enum-known-call-3 c = search needs
 
--- src/lib.rt:92:13
 order-requires : tie.Need-order-requires
 order-requires c κs = search needs
 
--- src/lib.rt:92:13
 returns-3 : tie.Need-returns-3
 unfolding flatPerform
 returns-3 c =
     let g = c .before .before .before .before .before .before .before .args in
     rw (c .before .before .before .before .before .call3 .given .1) (c .order .ensures (g .amounts .now) (g .masks .now) (g .good .now) (g .carried .now))
 
--- src/lib.rt:94:22
 enum-known-call-4 : tie.Need-enum-known-call-4
 enum-known-call-4 c = search needs
 
--- src/lib.rt:95:13
 read-requires : tie.Need-read-requires
 read-requires c κs = search needs
 
--- src/lib.rt:95:13
 returns-4 : tie.Need-returns-4
 unfolding flatPerform
 returns-4 c =
     let g = c .before .before .before .before .before .before .before .args in
     rw (c .before .before .before .before .before .call4 .given .1) (c .read .ensures (g .amounts .now) (g .masks .now) (g .good .now) (g .carried .now))
 
--- src/lib.rt:97:23
 enum-known-call-5 : tie.Need-enum-known-call-5
 enum-known-call-5 c = search needs
 
--- src/lib.rt:98:13
 crash-requires : tie.Need-crash-requires
 crash-requires c κs = search needs
 
--- src/lib.rt:98:13
 returns-5 : tie.Need-returns-5
 unfolding flatPerform
 returns-5 c =

@@ -8,32 +8,23 @@ use Rattle.exports.proofs.NumberLaws.{no-place, all-numbered}
 use borrow.Author.Needs.{needs}
 use Rattle.exports.proofs.answer_from.Statement.{statement}
 use Rattle.exports.proofs.answer_from.Tie as tie
-use Rattle.exports.proofs.answer_from.Reads as reads
-use Rattle.exports.proofs.answer_from.Lts as lts
-use Rattle.decoder.proofs.file.event_count.Reads as event-count-reads
-use Rattle.runfile.proofs.run.run_events.Reads as run-events-reads
 
--- src/lib.rt:87:9
 event-count-requires : tie.Need-event-count-requires
 event-count-requires c κs = search needs
 
--- src/lib.rt:89:9
 returns : tie.Need-returns
 returns c =
     let g = c .before .before .before .before .args in
     no-place (g .setup) (g .input .now) (g .numbers .now) _ (c .before .event-count .ensures) (c .if1 .taken)
 
--- src/lib.rt:98:5
 run-events-requires : tie.Need-run-events-requires
 run-events-requires c κs =
     let start = c .before .before .before .before .before .before .before .before .before .before .before .before in
     (fresh-right, rw (fresh-shown (start .args .setup)) (start .pre .0), omega arith, c .before .before .before .before .before .before .before .before .if1 .left)
 
--- src/lib.rt:82:1
 same-length : tie.Need-same-length
 same-length c = search needs
 
--- src/lib.rt:82:1
 returns-2 : tie.Need-returns-2
 returns-2 c =
     let g = c .before .before .before .before .before .before .before .before .before .before .before .before .before .before .before .args in

@@ -7,32 +7,21 @@ use Rattle.exports.proofs.DrainLaws.{malformed-none, refused-none, star
 use borrow.Author.Needs.{needs}
 use Rattle.exports.proofs.run_drain.Statement.{statement}
 use Rattle.exports.proofs.run_drain.Tie as tie
-use Rattle.exports.proofs.run_drain.Reads as reads
-use Rattle.exports.proofs.run_drain.Lts as lts
-use Rattle.decoder.proofs.file.setup_of.Reads as setup-of-reads
-use Rattle.decoder.proofs.file.well_formed.Reads as well-formed-reads
-use Rattle.exports.proofs.drain_from.Reads as drain-from-reads
-use Rattle.opening.proofs.start_refusal.Reads as start-refusal-reads
 
--- src/lib.rt:60:8
 well-formed-requires : tie.Need-well-formed-requires
 well-formed-requires c κs = search needs
 
--- src/lib.rt:61:13
 setup-of-requires : tie.Need-setup-of-requires
 setup-of-requires c κs = search needs
 
--- src/lib.rt:62:13
 start-refusal-requires : tie.Need-start-refusal-requires
 start-refusal-requires c κs = search needs
 
--- src/lib.rt:64:13
 returns : tie.Need-returns
 returns c =
     let g = c .before .before .before .before .before .before .args in
     refused-none (g .input .now) (g .limit) (g .out .now) _ _ (sym (c .before .before .before .before .well-formed .ensures) ∙ c .before .before .before .if1 .taken) (c .before .before .setup-of .ensures) (c .before .start-refusal .ensures) (c .if2 .taken)
 
--- src/lib.rt:66:9
 drain-from-requires : tie.Need-drain-from-requires
 drain-from-requires c κs =
     let input = c .before .before .before .before .before .before .before .args .input .now in
@@ -42,18 +31,15 @@ drain-from-requires c κs =
       few-events input well,
     )
 
--- src/lib.rt:66:9
 same-length : tie.Need-same-length
 same-length c = search needs
 
--- src/lib.rt:66:9
 returns-2 : tie.Need-returns-2
 returns-2 c =
     let g = c .before .before .before .before .before .before .before .before .before .args in
     let same = started-drains (g .input .now) (g .limit) (g .out .now) _ _ (sym (c .before .before .before .before .before .before .before .well-formed .ensures) ∙ c .before .before .before .before .before .before .if1 .taken) (c .before .before .before .before .before .setup-of .ensures) (c .before .before .before .before .start-refusal .ensures) (c .before .before .before .if2 .left) in
     (c .before .drain-from .ensures .0 ∙ ap (λ x. x .count) same, c .before .drain-from .ensures .1 ∙ ap (λ x. x .slice) same)
 
--- src/lib.rt:55:1
 returns-3 : tie.Need-returns-3
 returns-3 c =
     let g = c .before .before .before .args in

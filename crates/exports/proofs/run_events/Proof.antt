@@ -6,50 +6,36 @@ use Rattle.exports.proofs.NumberLaws.{malformed-not-run, refused-not-ru
 use borrow.Author.Needs.{needs}
 use Rattle.exports.proofs.run_events.Statement.{statement}
 use Rattle.exports.proofs.run_events.Tie as tie
-use Rattle.exports.proofs.run_events.Reads as reads
-use Rattle.exports.proofs.run_events.Lts as lts
-use Rattle.decoder.proofs.file.setup_of.Reads as setup-of-reads
-use Rattle.decoder.proofs.file.well_formed.Reads as well-formed-reads
-use Rattle.exports.proofs.answer_from.Reads as answer-from-reads
-use Rattle.opening.proofs.start_refusal.Reads as start-refusal-reads
 
--- src/lib.rt:122:8
 well-formed-requires : tie.Need-well-formed-requires
 well-formed-requires c κs = search needs
 
--- src/lib.rt:123:13
 setup-of-requires : tie.Need-setup-of-requires
 setup-of-requires c κs = search needs
 
--- src/lib.rt:124:13
 start-refusal-requires : tie.Need-start-refusal-requires
 start-refusal-requires c κs = search needs
 
--- src/lib.rt:126:13
 returns : tie.Need-returns
 returns c =
     let g = c .before .before .before .before .before .before .before .args in
     refused-not-run (g .input .now) (g .numbers .now) _ _ (sym (c .before .before .before .before .well-formed .ensures) ∙ c .before .before .before .if1 .taken) (c .before .before .setup-of .ensures) (c .before .start-refusal .ensures) (c .if2 .taken)
 
--- src/lib.rt:128:9
 answer-from-requires : tie.Need-answer-from-requires
 answer-from-requires c κs =
     let input = c .before .before .before .before .before .before .before .before .args .input .now in
     let well = sym (c .before .before .before .before .before .well-formed .ensures) ∙ c .before .before .before .before .if1 .taken in
     (file-stays input _ _ well (c .before .before .before .setup-of .ensures) (c .before .before .start-refusal .ensures) (c .before .if2 .left), few-events input well)
 
--- src/lib.rt:128:9
 same-length : tie.Need-same-length
 same-length c = search needs
 
--- src/lib.rt:128:9
 returns-2 : tie.Need-returns-2
 returns-2 c =
     let g = c .before .before .before .before .before .before .before .before .before .before .before .args in
     let same = started-runs (g .input .now) (g .numbers .now) _ _ (sym (c .before .before .before .before .before .before .before .before .well-formed .ensures) ∙ c .before .before .before .before .before .before .before .if1 .taken) (c .before .before .before .before .before .before .setup-of .ensures) (c .before .before .before .before .before .start-refusal .ensures) (c .before .before .before .before .if2 .left) in
     (c .before .before .answer-from .ensures .0 ∙ ap (λ x. x .count) same, c .before .before .answer-from .ensures .1 ∙ ap (λ x. x .slice) same)
 
--- src/lib.rt:117:1
 returns-3 : tie.Need-returns-3
 returns-3 c =
     let g = c .before .before .before .before .args in

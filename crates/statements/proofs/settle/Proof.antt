@@ -25,23 +25,13 @@ use Rattle.statements.proofs.Stated.{settled-sound, settled-view, settl
 use borrow.Author.Needs.{needs}
 use Rattle.statements.proofs.settle.Statement.{statement}
 use Rattle.statements.proofs.settle.Tie as tie
-use Rattle.statements.proofs.settle.Reads as reads
-use Rattle.statements.proofs.settle.Lts as lts
-use Rattle.decoder.proofs.file.event_count.Reads as event-count-reads
-use Rattle.drain.proofs.drain_events.Reads as drain-events-reads
-use Rattle.runfile.proofs.run.refusal_of.Reads as refusal-of-reads
-use Rattle.runfile.proofs.run.run_events.Reads as run-events-reads
-use Rattle.shown.proofs.figures.books_all_at.Reads as books-all-at-reads
 
--- src/lib.rt:69:9
 event-count-requires : tie.Need-event-count-requires
 event-count-requires c κs = search needs
 
--- src/lib.rt:82:9
 slice-aggregate-run-events : tie.Need-slice-aggregate-run-events
 slice-aggregate-run-events c = search needs
 
--- src/lib.rt:70:5
 run-events-requires : tie.Need-run-events-requires
 run-events-requires c κs =
     let g = c .before .before .before .before .before .before .before .before .before .before .args in
@@ -82,32 +72,26 @@ sound : (c : Drained) → isSound (view (setup (c .before .before .before .befor
 sound c =
     rw (settled-view (setup (c .before .before .before .before .before .before .before .before .before)) (calls (c .before .before .before .before .before .before .before .before .before)) (limit c) (after-run (c .before .before .before .before .before .before .before .before .before)) (left c) (run (c .before .before .before .before .before .before .before .before .before)) (c .drain-events .ensures .0)) (settled-sound (setup (c .before .before .before .before .before .before .before .before .before)) (calls (c .before .before .before .before .before .before .before .before .before)) (limit c) (c .before .before .before .before .before .before .before .before .before .before .before .before .before .before .before .before .before .before .before .before .pre .0))
 
--- src/lib.rt:84:9
 drain-events-requires : tie.Need-drain-events-requires
 drain-events-requires c κs =
     let at = c .before .before .before .before .before .before .before .before in
     (at .run-events .ensures .1 .0, rw (run at) (run-good (freshBoard (setup at)) (calls at) (c .before .before .before .before .before .before .before .before .before .before .before .before .before .before .before .before .before .before .before .pre .1)))
 
--- src/lib.rt:95:9
 books-all-at-requires : tie.Need-books-all-at-requires
 books-all-at-requires c κs =
     let at = c .before .before .before .before in
     let few = few-sites (setup (at .before .before .before .before .before .before .before .before .before)) (left at) (at .drain-events .ensures .1 .1 .1) (sound at) in
     (few, may-post-at (setup (at .before .before .before .before .before .before .before .before .before)) (left at) (at .drain-events .ensures .1 .1 .1 .masks-long) (sound at) few)
 
--- src/lib.rt:96:9
 refusal-of-requires : tie.Need-refusal-of-requires
 refusal-of-requires c κs = search needs
 
--- src/lib.rt:99:15
 array-read-t41 : tie.Need-array-read-t41
 array-read-t41 c = search needs
 
--- src/lib.rt:53:1
 same-length : tie.Need-same-length
 same-length c = search needs
 
--- src/lib.rt:53:1
 returns : tie.Need-returns
 returns c =
     let at = c .before .before .before .before .before .before .before in

@@ -13,11 +13,6 @@ use Rattle.statements.proofs.Stated.{settled-text}
 use borrow.Author.Needs.{needs}
 use Rattle.statements.proofs.state_from.Statement.{statement}
 use Rattle.statements.proofs.state_from.Tie as tie
-use Rattle.statements.proofs.state_from.Reads as reads
-use Rattle.statements.proofs.state_from.Lts as lts
-use Rattle.figures_table.proofs.lines.print_statement.Reads as print-statement-reads
-use Rattle.printer.proofs.print.wide.Reads as wide-reads
-use Rattle.statements.proofs.settle.Reads as settle-reads
 
 -- there is room for the books of all sites
 room : (c : tie.After-wide) → 64 * c .wide .result ≤ 448
@@ -25,42 +20,33 @@ room c =
     let start = c .before .before .before .before .before .before in
     omega (arith, c .wide .ensures, good-sites (freshBoard (start .args .setup)) (start .pre .1))
 
--- src/lib.rt:111:47
 slice-aggregate-settle : tie.Need-slice-aggregate-settle
 slice-aggregate-settle c = search needs
 
--- src/lib.rt:111:9
 settle-requires : tie.Need-settle-requires
 settle-requires c κs = search needs
 
--- src/lib.rt:113:27
 wide-requires : tie.Need-wide-requires
 wide-requires c κs = search needs
 
--- src/lib.rt:113:17
 mul-count : tie.Need-mul-count
 mul-count c = search needs
 
--- src/lib.rt:114:21
 array-share-prefix-figures : tie.Need-array-share-prefix-figures
 array-share-prefix-figures c = omega (arith, room c)
 
--- src/lib.rt:114:21
 slice-aggregate-print-statement : tie.Need-slice-aggregate-print-statement
 slice-aggregate-print-statement c =
     let figures = c .before .before .before .settle .last .1 .1 .1 .0 in
     let h : 64 * c .before .wide .result ≤ length figures = omega (arith, room (c .before)) in
     sym (length-take-le (64 * c .before .wide .result) figures h)
 
--- src/lib.rt:114:5
 print-statement-requires : tie.Need-print-statement-requires
 print-statement-requires c κs = search needs
 
--- src/lib.rt:105:1
 same-length : tie.Need-same-length
 same-length c = search needs
 
--- src/lib.rt:105:1
 returns : tie.Need-returns
 returns c =
     let start = c .before .before .before .before .before .before .before .before .before .before .before in

@@ -15,9 +15,6 @@ use Rattle.flight.proofs.Loads.{read-step, read-end}
 use borrow.Author.Needs.{needs}
 use Rattle.arrays.proofs.messages.carried_set.Statement.{statement}
 use Rattle.arrays.proofs.messages.carried_set.Tie as tie
-use Rattle.arrays.proofs.messages.carried_set.Reads as reads
-use Rattle.arrays.proofs.messages.carried_set.Lts as lts
-use Rattle.sets.proofs.Set.empty.Reads as empty-reads
 
 abbrev Inv-loop : tie.InvT-loop
 Inv-loop carried m from i load₀ k₀ load k = (k ≤ words) × (load .words ≡ wordsFrom carried (words * i) k ++ drop k (emptySet .words))
@@ -25,56 +22,43 @@ Inv-loop carried m from i load₀ k₀ load k = (k ≤ words) × (load .words �
 abbrev μ-loop : tie.MeasureT-loop
 μ-loop carried m from i load₀ k₀ load k = words - k
 
--- src/messages.rt:65:13
 mul-i : tie.Need-mul-i Inv-loop μ-loop
 mul-i c = search needs
 
--- src/messages.rt:65:13
 add-i : tie.Need-add-i Inv-loop μ-loop
 add-i c = search needs
 
--- src/messages.rt:66:20
 empty-requires : tie.Need-empty-requires Inv-loop μ-loop
 empty-requires c κs = search needs
 
--- src/messages.rt:67:5
 loop-holds : tie.Need-loop-holds Inv-loop μ-loop
 unfolding wordsFrom
 loop-holds c = (search needs, ap (λ (s : Set). s .words) (c .empty .ensures))
 
--- src/messages.rt:68:33
 mul-load : tie.Need-mul-load Inv-loop μ-loop
 mul-load c = search needs
 
--- src/messages.rt:68:33
 add-load : tie.Need-add-load Inv-loop μ-loop
 add-load c = search needs
 
--- src/messages.rt:68:25
 mul-load-2 : tie.Need-mul-load-2 Inv-loop μ-loop
 mul-load-2 c = search needs
 
--- src/messages.rt:68:25
 element-copy-out-load : tie.Need-element-copy-out-load Inv-loop μ-loop
 element-copy-out-load c = search needs
 
--- src/messages.rt:68:9
 mul-load-3 : tie.Need-mul-load-3 Inv-loop μ-loop
 mul-load-3 c = search needs
 
--- src/messages.rt:68:9
 element-write-load : tie.Need-element-write-load Inv-loop μ-loop
 element-write-load c = search needs
 
--- src/messages.rt:67:9
 add-k : tie.Need-add-k Inv-loop μ-loop
 add-k c = search needs
 
--- src/messages.rt:67:5
 loop-less : tie.Need-loop-less Inv-loop μ-loop
 loop-less c = search needs
 
--- src/messages.rt:67:5
 loop-again : tie.Need-loop-again Inv-loop μ-loop
 loop-again c =
     let at = c .before .before .loop in
@@ -82,7 +66,6 @@ loop-again c =
     let more : at .k < length (emptySet .words) = omega arith in
     (search needs, read-step (a .carried .now) (emptySet .words) (words * (a .m * sites + a .from)) (at .k) _ more (at .inv .1))
 
--- src/messages.rt:61:1
 returns : tie.Need-returns Inv-loop μ-loop
 returns c =
     let at = c .before .loop in

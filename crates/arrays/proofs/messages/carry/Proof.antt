@@ -12,8 +12,6 @@ use Rattle.flight.proofs.Loads.{store-step, store-end}
 use borrow.Author.Needs.{needs}
 use Rattle.arrays.proofs.messages.carry.Statement.{statement}
 use Rattle.arrays.proofs.messages.carry.Tie as tie
-use Rattle.arrays.proofs.messages.carry.Reads as reads
-use Rattle.arrays.proofs.messages.carry.Lts as lts
 
 abbrev Inv-loop : tie.InvT-loop
 Inv-loop carried₀ m from load i k₀ carried k = (k ≤ words) × (carried ≡ sets carried₀ (words * i) (take k (load .words)))
@@ -21,51 +19,39 @@ Inv-loop carried₀ m from load i k₀ carried k = (k ≤ words) × (carried ≡
 abbrev μ-loop : tie.MeasureT-loop
 μ-loop carried₀ m from load i k₀ carried k = words - k
 
--- src/messages.rt:78:13
 mul-i : tie.Need-mul-i Inv-loop μ-loop
 mul-i c = search needs
 
--- src/messages.rt:78:13
 add-i : tie.Need-add-i Inv-loop μ-loop
 add-i c = search needs
 
--- src/messages.rt:79:5
 loop-holds : tie.Need-loop-holds Inv-loop μ-loop
 loop-holds c = (search needs, refl)
 
--- src/messages.rt:80:34
 mul-carried : tie.Need-mul-carried Inv-loop μ-loop
 mul-carried c = search needs
 
--- src/messages.rt:80:34
 element-copy-out-carried : tie.Need-element-copy-out-carried Inv-loop μ-loop
 element-copy-out-carried c = search needs
 
--- src/messages.rt:80:17
 mul-carried-2 : tie.Need-mul-carried-2 Inv-loop μ-loop
 mul-carried-2 c = search needs
 
--- src/messages.rt:80:17
 add-carried : tie.Need-add-carried Inv-loop μ-loop
 add-carried c = search needs
 
--- src/messages.rt:80:9
 mul-carried-3 : tie.Need-mul-carried-3 Inv-loop μ-loop
 mul-carried-3 c = search needs
 
--- src/messages.rt:80:9
 element-write-carried : tie.Need-element-write-carried Inv-loop μ-loop
 element-write-carried c = search needs
 
--- src/messages.rt:79:9
 add-k : tie.Need-add-k Inv-loop μ-loop
 add-k c = search needs
 
--- src/messages.rt:79:5
 loop-less : tie.Need-loop-less Inv-loop μ-loop
 loop-less c = search needs
 
--- src/messages.rt:79:5
 loop-again : tie.Need-loop-again Inv-loop μ-loop
 loop-again c =
     let at = c .before .before .loop in
@@ -74,7 +60,6 @@ loop-again c =
     let more : at .k < length (load .words) = omega arith in
     (search needs, store-step _ (load .words) _ (at .k) _ more (at .inv .1))
 
--- src/messages.rt:74:1
 returns : tie.Need-returns Inv-loop μ-loop
 returns c =
     let at = c .before .loop in

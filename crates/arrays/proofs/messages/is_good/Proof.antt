@@ -10,30 +10,22 @@ use Rattle.flight.specs.Flights.{pairs, pairAt}
 use borrow.Author.Needs.{needs}
 use Rattle.arrays.proofs.messages.is_good.Statement.{statement}
 use Rattle.arrays.proofs.messages.is_good.Tie as tie
-use Rattle.arrays.proofs.messages.is_good.Reads as reads
-use Rattle.arrays.proofs.messages.is_good.Lts as lts
 
--- src/messages.rt:41:13
 mul-i : tie.Need-mul-i
 mul-i c = search needs
 
--- src/messages.rt:41:13
 add-i : tie.Need-add-i
 add-i c = search needs
 
--- src/messages.rt:42:13
 element-copy-out-w : tie.Need-element-copy-out-w
 element-copy-out-w c = search needs
 
--- src/messages.rt:43:11
 cast-result : tie.Need-cast-result
 cast-result c = search needs
 
--- src/messages.rt:43:6
 shr-result : tie.Need-shr-result
 shr-result c = search needs
 
--- src/messages.rt:37:1
 returns : tie.Need-returns
 unfolding hasBit
 returns c =

@@ -8,41 +8,31 @@ use Rattle.flight.proofs.Changes.{one-good, one-bad}
 use borrow.Author.Needs.{needs}
 use Rattle.arrays.proofs.messages.say.Statement.{statement}
 use Rattle.arrays.proofs.messages.say.Tie as tie
-use Rattle.arrays.proofs.messages.say.Reads as reads
-use Rattle.arrays.proofs.messages.say.Lts as lts
 
--- src/messages.rt:51:13
 mul-i : tie.Need-mul-i
 mul-i c = search needs
 
--- src/messages.rt:51:13
 add-i : tie.Need-add-i
 add-i c = search needs
 
--- src/messages.rt:52:13
 element-copy-out-w : tie.Need-element-copy-out-w
 element-copy-out-w c = search needs
 
--- src/messages.rt:54:9
 element-write-good : tie.Need-element-write-good
 element-write-good c = search needs
 
--- src/messages.rt:55:9
 returns : tie.Need-returns
 returns c =
     let a = c .before .before .args in
     let p = c .before .before .pre in
     rw (c .if1 .taken) (one-good (a .good .now) 1 (a .m) (a .from) _ (sym (pair-in (a .m) (a .from) (p .0) (p .1))) (a .receivers) refl (omega arith))
 
--- src/messages.rt:57:15
 sub-good : tie.Need-sub-good
 sub-good c = and-le-l _ _
 
--- src/messages.rt:57:5
 element-write-good-2 : tie.Need-element-write-good-2
 element-write-good-2 c = search needs
 
--- src/messages.rt:47:1
 returns-2 : tie.Need-returns-2
 returns-2 c =
     let a = c .before .before .args in

@@ -7,34 +7,25 @@ use Rattle.flight.proofs.Changes.{one-sent}
 use borrow.Author.Needs.{needs}
 use Rattle.arrays.proofs.messages.send.Statement.{statement}
 use Rattle.arrays.proofs.messages.send.Tie as tie
-use Rattle.arrays.proofs.messages.send.Reads as reads
-use Rattle.arrays.proofs.messages.send.Lts as lts
 
--- src/messages.rt:31:13
 mul-i : tie.Need-mul-i
 mul-i c = search needs
 
--- src/messages.rt:31:29
 mul-i-2 : tie.Need-mul-i-2
 mul-i-2 c = search needs
 
--- src/messages.rt:31:29
 add-i : tie.Need-add-i
 add-i c = search needs
 
--- src/messages.rt:31:13
 add-i-2 : tie.Need-add-i-2
 add-i-2 c = search needs
 
--- src/messages.rt:32:13
 element-copy-out-w : tie.Need-element-copy-out-w
 element-copy-out-w c = search needs
 
--- src/messages.rt:33:5
 element-write-masks : tie.Need-element-write-masks
 element-write-masks c = search needs
 
--- src/messages.rt:27:1
 returns : tie.Need-returns
 returns c =
     let a = c .before .args in

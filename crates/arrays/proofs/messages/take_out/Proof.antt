@@ -9,46 +9,34 @@ use Rattle.flight.proofs.Changes.{one-taken}
 use borrow.Author.Needs.{needs}
 use Rattle.arrays.proofs.messages.take_out.Statement.{statement}
 use Rattle.arrays.proofs.messages.take_out.Tie as tie
-use Rattle.arrays.proofs.messages.take_out.Reads as reads
-use Rattle.arrays.proofs.messages.take_out.Lts as lts
 
--- src/messages.rt:21:13
 mul-i : tie.Need-mul-i
 mul-i c = search needs
 
--- src/messages.rt:21:29
 mul-i-2 : tie.Need-mul-i-2
 mul-i-2 c = search needs
 
--- src/messages.rt:21:29
 add-i : tie.Need-add-i
 add-i c = search needs
 
--- src/messages.rt:21:13
 add-i-2 : tie.Need-add-i-2
 add-i-2 c = search needs
 
--- src/messages.rt:22:13
 element-copy-out-w : tie.Need-element-copy-out-w
 element-copy-out-w c = search needs
 
--- src/messages.rt:23:31
 cast-masks : tie.Need-cast-masks
 cast-masks c = search needs
 
--- src/messages.rt:23:26
 shl-masks : tie.Need-shl-masks
 shl-masks c = search needs
 
--- src/messages.rt:23:16
 sub-masks : tie.Need-sub-masks
 sub-masks c = and-le-l _ _
 
--- src/messages.rt:23:5
 element-write-masks : tie.Need-element-write-masks
 element-write-masks c = search needs
 
--- src/messages.rt:17:1
 returns : tie.Need-returns
 returns c =
     let a = c .before .args in

@@ -10,7 +10,7 @@ use borrow.Author.Needs.{needs}
 use native.Mathlib.Omega.{arith}
 use Rattle.sets.specs.BelowLaws.{all-from, all-fails}
 use Rattle.posting.proofs.Pairs.{is-false}
-use Rattle.books.proofs.Blocks.{part-all}
+use Rattle.decoder.proofs.Events.{event-part}
 use Rattle.decoder.specs.RunFile.{eventAt, eventCount, eventOk, eventsOk}
 use Rattle.decoder.proofs.file.events_ok.Statement.{statement}
 use Rattle.decoder.proofs.file.events_ok.Tie as tie
@@ -25,7 +25,7 @@ abbrev μ-loop : tie.MeasureT-loop
 μ-loop input count k₀ k = count - k
 
 tested : (c : tie.After-event-ok Inv-loop μ-loop) → c .event-ok .result ≡ passes (c .before .before .before .before .before .before .args .input .now) (c .before .before .before .loop .k)
-tested c = c .event-ok .ensures ∙ ap eventOk (part-all (9 + 10 * c .before .before .before .loop .k) (c .before .before .before .before .before .before .args .input .now))
+tested c = c .event-ok .ensures ∙ ap eventOk (event-part (c .before .before .before .before .before .before .args .input .now) (c .before .before .before .loop .k))
 
 event-count-requires : tie.Need-event-count-requires Inv-loop μ-loop
 event-count-requires c κs = search needs
@@ -38,6 +38,9 @@ mul-at c = search needs
 
 add-at : tie.Need-add-at Inv-loop μ-loop
 add-at c = search needs
+
+add-event-ok : tie.Need-add-event-ok Inv-loop μ-loop
+add-event-ok c = search needs
 
 sub-event-ok : tie.Need-sub-event-ok Inv-loop μ-loop
 sub-event-ok c = search needs
@@ -87,6 +90,7 @@ events-ok-spec =
     loop-holds
     mul-at
     add-at
+    add-event-ok
     sub-event-ok
     part-event-ok-start
     part-event-ok-end

@@ -32,11 +32,11 @@ abbrev pub μ-search : tie.MeasureT-search
 μ-search words counts bytes amounts masks good carried setup limit count floor up found₀ k₀ found k = cells - k
 
 abbrev pub Inv-loop : tie.InvT-loop
-Inv-loop words₀ counts₀ bytes₀ amounts₀ masks₀ good₀ carried₀ setup limit count₀ floor₀ words counts bytes amounts masks good carried count floor =
-    Working setup (view setup (arrays words₀ counts₀ bytes₀ amounts₀ masks₀ good₀ carried₀)) limit (arrays words counts bytes amounts masks good carried) count floor
+Inv-loop words₀ counts₀ bytes₀ amounts masks₀ good₀ carried₀ setup limit count₀ floor₀ words counts bytes masks good carried count floor =
+    Working setup (view setup (arrays words₀ counts₀ bytes₀ amounts masks₀ good₀ carried₀)) limit (arrays words counts bytes amounts masks good carried) count floor
 
 abbrev pub μ-loop : tie.MeasureT-loop
-μ-loop words₀ counts₀ bytes₀ amounts₀ masks₀ good₀ carried₀ setup limit count₀ floor₀ words counts bytes amounts masks good carried count floor = limit - count
+μ-loop words₀ counts₀ bytes₀ amounts masks₀ good₀ carried₀ setup limit count₀ floor₀ words counts bytes masks good carried count floor = limit - count
 
 -- the masks that the search looks at
 abbrev masks-at : tie.At-search Inv-loop2 μ-loop2 Inv-search μ-search Inv-loop μ-loop → List ℕ

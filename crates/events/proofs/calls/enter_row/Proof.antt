@@ -1,7 +1,7 @@
 -- `enter_row` meets its contract.
 -- Assumes nothing.
 use mathlib.Core.Path.{refl}
-use Rattle.events.specs.Flat.{entered}
+use Rattle.flat.specs.Flat.{entered}
 use borrow.Author.Needs.{needs}
 use Rattle.events.proofs.calls.enter_row.Statement.{statement}
 use Rattle.events.proofs.calls.enter_row.Tie as tie

@@ -6,24 +6,13 @@ use Rattle.events.proofs.OnReceive.{in-place, receive-refused, receive-
 use borrow.Author.Needs.{needs}
 use Rattle.events.proofs.receipts.receive.Statement.{statement}
 use Rattle.events.proofs.receipts.receive.Tie as tie
-use Rattle.events.proofs.receipts.receive.Reads as reads
-use Rattle.events.proofs.receipts.receive.Lts as lts
-use Rattle.events.proofs.deliver.on_deliver.Reads as on-deliver-reads
-use Rattle.events.proofs.first.on_first.Reads as on-first-reads
-use Rattle.events.proofs.second.on_second.Reads as on-second-reads
-use Rattle.events.proofs.third.on_third.Reads as on-third-reads
-use Rattle.flight.proofs.in_flight.Reads as in-flight-reads
-use Rattle.steps.proofs.refusals.message_refusal.Reads as message-refusal-reads
 
--- src/receipts.rt:70:16
 element-copy-out-down : tie.Need-element-copy-out-down
 element-copy-out-down c = search needs
 
--- src/receipts.rt:71:9
 message-refusal-requires : tie.Need-message-refusal-requires
 message-refusal-requires c κs = search needs
 
--- src/receipts.rt:73:9
 returns : tie.Need-returns
 returns c =
     λ amounts.
@@ -31,15 +20,12 @@ returns c =
     let a = arrays (g .words .now) (g .counts .now) (g .bytes .now) amounts (g .masks .now) (g .good .now) (g .carried .now) in
     receive-refused (g .setup) a (g .form) (g .m) (g .from) (g .to) (g .cut) _ (c .before .message-refusal .ensures) (c .if1 .taken)
 
--- src/receipts.rt:75:8
 in-flight-requires : tie.Need-in-flight-requires
 in-flight-requires c κs = search needs
 
--- src/receipts.rt:77:13
 on-first-requires : tie.Need-on-first-requires
 on-first-requires c κs = let g = c .before .before .before .before .before .before .before .before .before .before .before .args in in-place (g .masks .now) (g .form) (g .m) (g .from) (g .to) (sym (c .before .before .before .before .before .before .in-flight .ensures) ∙ c .before .before .before .before .before .if2 .taken)
 
--- src/receipts.rt:77:13
 returns-2 : tie.Need-returns-2
 returns-2 c =
     λ amounts.
@@ -47,11 +33,9 @@ returns-2 c =
     let a = arrays (g .words .now) (g .counts .now) (g .bytes .now) amounts (g .masks .now) (g .good .now) (g .carried .now) in
     rw (is-first (g .setup) a (g .form) (g .m) (g .from) (g .to) (g .cut) _ (c .before .before .before .before .before .before .before .before .before .before .message-refusal .ensures) (c .before .before .before .before .before .before .before .before .before .if1 .left) (sym (c .before .before .before .before .before .before .before .in-flight .ensures) ∙ c .before .before .before .before .before .before .if2 .taken) (c .before .before .before .before .before .if3 .taken)) (c .on-first .ensures (g .counts .now) amounts (g .carried .now))
 
--- src/receipts.rt:80:13
 on-second-requires : tie.Need-on-second-requires
 on-second-requires c κs = let g = c .before .before .before .before .before .before .before .before .before .before .before .before .before .args in in-place (g .masks .now) (g .form) (g .m) (g .from) (g .to) (sym (c .before .before .before .before .before .before .before .before .in-flight .ensures) ∙ c .before .before .before .before .before .before .before .if2 .taken)
 
--- src/receipts.rt:80:13
 returns-3 : tie.Need-returns-3
 returns-3 c =
     λ amounts.
@@ -59,11 +43,9 @@ returns-3 c =
     let a = arrays (g .words .now) (g .counts .now) (g .bytes .now) amounts (g .masks .now) (g .good .now) (g .carried .now) in
     rw (is-second (g .setup) a (g .form) (g .m) (g .from) (g .to) (g .cut) _ (c .before .before .before .before .before .before .before .before .before .before .before .before .message-refusal .ensures) (c .before .before .before .before .before .before .before .before .before .before .before .if1 .left) (sym (c .before .before .before .before .before .before .before .before .before .in-flight .ensures) ∙ c .before .before .before .before .before .before .before .before .if2 .taken) (c .before .before .before .before .before .before .if4 .taken)) (c .on-second .ensures (g .counts .now) amounts)
 
--- src/receipts.rt:83:13
 on-third-requires : tie.Need-on-third-requires
 on-third-requires c κs = let g = c .before .before .before .before .before .before .before .before .before .before .before .before .before .args in in-place (g .masks .now) (g .form) (g .m) (g .from) (g .to) (sym (c .before .before .before .before .before .before .before .before .in-flight .ensures) ∙ c .before .before .before .before .before .before .before .if2 .taken)
 
--- src/receipts.rt:83:13
 returns-4 : tie.Need-returns-4
 returns-4 c =
     λ amounts.
@@ -71,11 +53,9 @@ returns-4 c =
     let a = arrays (g .words .now) (g .counts .now) (g .bytes .now) amounts (g .masks .now) (g .good .now) (g .carried .now) in
     rw (is-third (g .setup) a (g .form) (g .m) (g .from) (g .to) (g .cut) _ (c .before .before .before .before .before .before .before .before .before .before .before .before .message-refusal .ensures) (c .before .before .before .before .before .before .before .before .before .before .before .if1 .left) (sym (c .before .before .before .before .before .before .before .before .before .in-flight .ensures) ∙ c .before .before .before .before .before .before .before .before .if2 .taken) (c .before .before .before .before .before .if5 .taken)) (c .on-third .ensures (g .counts .now) amounts (g .good .now))
 
--- src/receipts.rt:85:9
 on-deliver-requires : tie.Need-on-deliver-requires
 on-deliver-requires c κs = let g = c .before .before .before .before .before .before .before .before .before .before .before .before .before .args in in-place (g .masks .now) (g .form) (g .m) (g .from) (g .to) (sym (c .before .before .before .before .before .before .before .before .in-flight .ensures) ∙ c .before .before .before .before .before .before .before .if2 .taken)
 
--- src/receipts.rt:85:9
 returns-5 : tie.Need-returns-5
 returns-5 c =
     λ amounts.
@@ -83,7 +63,6 @@ returns-5 c =
     let a = arrays (g .words .now) (g .counts .now) (g .bytes .now) amounts (g .masks .now) (g .good .now) (g .carried .now) in
     rw (is-deliver (g .setup) a (g .form) (g .m) (g .from) (g .to) (g .cut) _ (c .before .before .before .before .before .before .before .before .before .before .before .before .message-refusal .ensures) (c .before .before .before .before .before .before .before .before .before .before .before .if1 .left) (sym (c .before .before .before .before .before .before .before .before .before .in-flight .ensures) ∙ c .before .before .before .before .before .before .before .before .if2 .taken) (c .before .before .before .before .before .before .before .if3 .left) (c .before .before .before .before .before .before .if4 .left) (c .before .before .before .before .before .if5 .left)) (c .on-deliver .ensures amounts (g .good .now) (g .carried .now))
 
--- src/receipts.rt:54:1
 returns-6 : tie.Need-returns-6
 returns-6 c =
     λ amounts.

@@ -8,34 +8,25 @@ use Rattle.machine.proofs.Answered.{answered-refused, answered-so, offe
 use borrow.Author.Needs.{needs}
 use Rattle.machine.proofs.Board.offer.Statement.{statement}
 use Rattle.machine.proofs.Board.offer.Tie as tie
-use Rattle.machine.proofs.Board.offer.Reads as reads
-use Rattle.machine.proofs.Board.offer.Lts as lts
-use Rattle.machine.proofs.Board.is_sound.Reads as is-sound-reads
-use Rattle.machine.proofs.Board.take.Reads as take-reads
 
--- src/service.rt:94:12
 is-sound-requires : tie.Need-is-sound-requires
 is-sound-requires c κs = search needs
 
--- src/service.rt:97:17
 take-requires : tie.Need-take-requires
 take-requires c κs = sym (c .before .before .is-sound .ensures) ∙ c .before .if1 .taken
 
--- src/service.rt:107:17
 returns : tie.Need-returns
 unfolding taking
 returns c =
     let g = c .before .before .before .before .before .before .before .args in
     answered-refused _ _ (offer-by (g .self) (g .site) (g .kind) (g .account) (g .other) (g .amount) (g .cut)) _ _ (c .before .before .before .take .ensures .0) (c .before .before .before .take .ensures .1) (c .if2 .taken)
 
--- src/service.rt:112:13
 returns-2 : tie.Need-returns-2
 unfolding taking
 returns-2 c =
     let g = c .before .before .before .before .before .before .before .args in
     answered-so _ _ (offer-by (g .self) (g .site) (g .kind) (g .account) (g .other) (g .amount) (g .cut)) _ _ (c .before .before .before .take .ensures .0) (c .before .before .before .take .ensures .1) (c .if2 .left)
 
--- src/service.rt:83:5
 returns-3 : tie.Need-returns-3
 unfolding offering
 returns-3 c = unsound-refused (c .before .before .args .self) (sym (c .before .is-sound .ensures) ∙ c .if1 .left) _ _

@@ -8,17 +8,10 @@ use Rattle.machine.proofs.Answered.{taken-call}
 use borrow.Author.Needs.{needs}
 use Rattle.machine.proofs.Board.take.Statement.{statement}
 use Rattle.machine.proofs.Board.take.Tie as tie
-use Rattle.machine.proofs.Board.take.Reads as reads
-use Rattle.machine.proofs.Board.take.Lts as lts
-use Rattle.events.proofs.perform.Reads as perform-reads
-use Rattle.machine.proofs.laying.lay_out.Reads as lay-out-reads
-use Rattle.machine.proofs.taking.board_of.Reads as board-of-reads
 
--- src/service.rt:63:9
 lay-out-requires : tie.Need-lay-out-requires
 lay-out-requires c κs = search needs
 
--- src/service.rt:64:13
 perform-requires : tie.Need-perform-requires
 perform-requires c κs =
     let laid = c .before .before .before .before .before .before .before .lay-out .ensures in
@@ -27,11 +20,9 @@ perform-requires c κs =
     let sound = ap isSound (laid .0) ∙ start .pre in
     (few-sites setup _ (laid .1) sound, log-fits setup _ (laid .1) sound)
 
--- src/service.rt:75:13
 board-of-requires : tie.Need-board-of-requires
 board-of-requires c κs = search needs
 
--- src/service.rt:49:5
 returns : tie.Need-returns
 returns c =
     let laid = c .before .before .before .before .before .before .before .before .before .before .before .before .before .lay-out .ensures in

@@ -5,14 +5,10 @@ use borrow.Author.Tests.{eq-eqb, ne-eqb}
 use borrow.Author.Needs.{needs}
 use Rattle.machine.proofs.service.outcome.Statement.{statement}
 use Rattle.machine.proofs.service.outcome.Tie as tie
-use Rattle.machine.proofs.service.outcome.Reads as reads
-use Rattle.machine.proofs.service.outcome.Lts as lts
 
--- src/service.rt:36:9
 returns : tie.Need-returns
 returns c = rw (ne-eqb _ 0 (c .if1 .taken)) refl
 
--- src/service.rt:31:1
 returns-2 : tie.Need-returns-2
 returns-2 c = rw (eq-eqb _ 0 (c .if1 .left)) refl
 

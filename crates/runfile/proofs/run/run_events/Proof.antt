@@ -11,10 +11,6 @@ use Rattle.runfile.proofs.Runs.{Ran, ran-none, ran-long, ran-sound, ran
 use borrow.Author.Needs.{needs}
 use Rattle.runfile.proofs.run.run_events.Statement.{statement}
 use Rattle.runfile.proofs.run.run_events.Tie as tie
-use Rattle.runfile.proofs.run.run_events.Reads as reads
-use Rattle.runfile.proofs.run.run_events.Lts as lts
-use Rattle.decoder.proofs.file.call_at.Reads as call-at-reads
-use Rattle.events.proofs.perform.Reads as perform-reads
 
 abbrev Inv-loop : tie.InvT-loop
 Inv-loop words₀ counts₀ bytes₀ amounts₀ masks₀ good₀ carried₀ setup input first last numbers₀ k₀ words counts bytes amounts masks good carried numbers k =
@@ -23,51 +19,40 @@ Inv-loop words₀ counts₀ bytes₀ amounts₀ masks₀ good₀ carried₀ setu
 abbrev μ-loop : tie.MeasureT-loop
 μ-loop words₀ counts₀ bytes₀ amounts₀ masks₀ good₀ carried₀ setup input first last numbers₀ k₀ words counts bytes amounts masks good carried numbers k = last - k
 
--- src/run.rt:77:5
 loop-holds : tie.Need-loop-holds Inv-loop μ-loop
 loop-holds c =
     let g = c .before .before .args in
     let p = c .before .before .pre in
     ran-none (g .setup) (g .input .now) (g .numbers .now) (g .first) (g .last) _ (p .0) (p .2)
 
--- src/run.rt:78:13
-call-at-requires : tie.Need-call-at-requires Inv-loop μ-loop
-call-at-requires c κs = search needs
-
--- src/run.rt:79:22
-perform-requires : tie.Need-perform-requires Inv-loop μ-loop
-perform-requires c κs =
-    let g = c .before .before .before .before .before .before .before .before .before .before .before .before .args in
-    let p = c .before .before .before .before .before .before .before .before .before .before .before .before .pre in
-    let at = c .before .before .before .before .before .before .before .before .before .loop in
+perform-at-requires : tie.Need-perform-at-requires Inv-loop μ-loop
+perform-at-requires c κs =
+    let g = c .before .before .before .before .before .before .before .before .before .before .before .args in
+    let p = c .before .before .before .before .before .before .before .before .before .before .before .pre in
+    let at = c .before .before .before .before .before .before .before .before .loop in
     let sound = ran-sound (g .setup) (g .input .now) (g .numbers .now) (g .first) (g .last) (p .1) (at .inv) in
     (few-sites (g .setup) _ (at .inv .right) sound, log-fits (g .setup) _ (at .inv .right) sound)
 
--- src/run.rt:79:9
 slice-write-numbers : tie.Need-slice-write-numbers Inv-loop μ-loop
 slice-write-numbers c =
-    let g = c .before .before .before .before .before .before .before .before .before .before .before .before .before .args in
-    let p = c .before .before .before .before .before .before .before .before .before .before .before .before .before .pre in
-    let at = c .before .before .before .before .before .before .before .before .before .before .loop in
-    omega (arith, ran-long (g .setup) (g .input .now) (g .numbers .now) (g .first) (g .last) (p .3) (at .inv), c .before .before .before .before .before .before .before .before .before .loop-test .taken, p .3)
+    let g = c .before .before .before .before .before .before .before .before .before .before .before .before .args in
+    let p = c .before .before .before .before .before .before .before .before .before .before .before .before .pre in
+    let at = c .before .before .before .before .before .before .before .before .before .loop in
+    omega (arith, ran-long (g .setup) (g .input .now) (g .numbers .now) (g .first) (g .last) (p .3) (at .inv), c .before .before .before .before .before .before .before .before .loop-test .taken, p .3)
 
--- src/run.rt:77:9
 add-k : tie.Need-add-k Inv-loop μ-loop
-add-k c = omega (arith, c .before .before .before .before .before .before .before .before .before .loop-test .taken)
+add-k c = omega (arith, c .before .before .before .before .before .before .before .before .loop-test .taken)
 
--- src/run.rt:77:5
 loop-less : tie.Need-loop-less Inv-loop μ-loop
-loop-less c = omega (arith, c .before .before .before .before .before .before .before .before .before .loop-test .taken)
+loop-less c = omega (arith, c .before .before .before .before .before .before .before .before .loop-test .taken)
 
--- src/run.rt:77:5
 loop-again : tie.Need-loop-again Inv-loop μ-loop
 loop-again c =
-    let g = c .before .before .before .before .before .before .before .before .before .before .before .before .before .args in
-    let p = c .before .before .before .before .before .before .before .before .before .before .before .before .before .pre in
-    let at = c .before .before .before .before .before .before .before .before .before .before .loop in
-    ran-more (g .setup) (g .input .now) (g .numbers .now) (g .first) (g .last) (p .1) (p .3) (at .inv) (c .before .before .before .before .before .before .before .before .before .loop-test .taken) _ _ _ (c .before .before .before .before .before .before .before .before .call-at .ensures) (c .perform .ensures)
+    let g = c .before .before .before .before .before .before .before .before .before .before .before .before .args in
+    let p = c .before .before .before .before .before .before .before .before .before .before .before .before .pre in
+    let at = c .before .before .before .before .before .before .before .before .before .loop in
+    ran-more (g .setup) (g .input .now) (g .numbers .now) (g .first) (g .last) (p .1) (p .3) (at .inv) (c .before .before .before .before .before .before .before .before .loop-test .taken) _ _ (c .perform-at .ensures)
 
--- src/run.rt:58:1
 same-length : tie.Need-same-length Inv-loop μ-loop
 same-length c =
     let g = c .before .before .before .before .args in
@@ -75,7 +60,6 @@ same-length c =
     let at = c .before .loop in
     ran-long (g .setup) (g .input .now) (g .numbers .now) (g .first) (g .last) (p .3) (at .inv)
 
--- src/run.rt:58:1
 returns : tie.Need-returns Inv-loop μ-loop
 returns c =
     let g = c .before .before .before .before .args in
@@ -91,8 +75,7 @@ run-events-spec =
     Inv-loop
     μ-loop
     loop-holds
-    call-at-requires
-    perform-requires
+    perform-at-requires
     slice-write-numbers
     add-k
     loop-less

@@ -22,30 +22,19 @@ use Rattle.runfile.proofs.Runs.{fresh-run, fresh-numbers, fresh-long}
 use borrow.Author.Needs.{needs}
 use Rattle.runfile.proofs.run.run_from.Statement.{statement}
 use Rattle.runfile.proofs.run.run_from.Tie as tie
-use Rattle.runfile.proofs.run.run_from.Reads as reads
-use Rattle.runfile.proofs.run.run_from.Lts as lts
-use Rattle.decoder.proofs.file.event_count.Reads as event-count-reads
-use Rattle.printer.proofs.print.print_run.Reads as print-run-reads
-use Rattle.runfile.proofs.ended_on.Reads as ended-on-reads
-use Rattle.runfile.proofs.run.run_events.Reads as run-events-reads
-use Rattle.shown.proofs.quiet.is_quiet_at.Reads as is-quiet-at-reads
 
--- src/run.rt:107:9
 event-count-requires : tie.Need-event-count-requires
 event-count-requires c κs = search needs
 
--- src/run.rt:120:9
 slice-aggregate-run-events : tie.Need-slice-aggregate-run-events
 slice-aggregate-run-events c = search needs
 
--- src/run.rt:108:5
 run-events-requires : tie.Need-run-events-requires
 run-events-requires c κs =
     let g = c .before .before .before .before .before .before .before .before .before .before .before .args in
     let p = c .before .before .before .before .before .before .before .before .before .before .before .pre in
     (fresh-right, rw (fresh-shown (g .setup)) (p .0), omega arith, omega (arith, c .before .before .before .before .before .before .before .before .event-count .ensures, p .1))
 
--- src/run.rt:122:9
 -- ---- what the run has left
 
 abbrev Ended : Type 0
@@ -91,29 +80,23 @@ is-quiet-at-requires c κs =
     let at = c .before .before .before .before .before in
     (few-sites (setup at) (left at) (at .run-events .ensures .1 .0) (sound at), at .run-events .ensures .1 .0 .masks-long)
 
--- src/run.rt:123:9
 ended-on-requires : tie.Need-ended-on-requires
 ended-on-requires c κs = search needs
 
--- src/run.rt:124:15
 array-share-prefix-numbers : tie.Need-array-share-prefix-numbers
 array-share-prefix-numbers c = fits (c .before .before .before .before .before .before .before .before .before)
 
--- src/run.rt:124:15
 slice-aggregate-print-run : tie.Need-slice-aggregate-print-run
 slice-aggregate-print-run c =
     let at = c .before .before .before .before .before .before .before .before .before .before in
     sym (length-take-le (count at) (numbers at) (fits at))
 
--- src/run.rt:124:5
 print-run-requires : tie.Need-print-run-requires
 print-run-requires c κs = search needs
 
--- src/run.rt:94:1
 same-length : tie.Need-same-length
 same-length c = search needs
 
--- src/run.rt:94:1
 returns : tie.Need-returns
 returns c =
     let at = c .before .before .before .before .before .before .before .before .before .before .before .before .before .before in

@@ -10,22 +10,13 @@ use Rattle.shown.proofs.Showing.{no-room-at, all-shown-at, post-at}
 use borrow.Author.Needs.{needs}
 use Rattle.shown.proofs.figures.books_all_at.Statement.{statement}
 use Rattle.shown.proofs.figures.books_all_at.Tie as tie
-use Rattle.shown.proofs.figures.books_all_at.Reads as reads
-use Rattle.shown.proofs.figures.books_all_at.Lts as lts
-use Rattle.books.proofs.blank.Reads as blank-reads
-use Rattle.books.proofs.books_all.Reads as books-all-reads
-use Rattle.machine.proofs.taking.table_of.Reads as table-of-reads
-use Rattle.shown.proofs.figures.records_of.Reads as records-of-reads
 
--- src/figures.rt:114:13
 cast-n : tie.Need-cast-n
 cast-n c = search needs
 
--- src/figures.rt:115:20
 mul-if1 : tie.Need-mul-if1
 mul-if1 c = search needs
 
--- src/figures.rt:116:9
 returns : tie.Need-returns
 returns c =
     let g = c .before .before .args in
@@ -33,19 +24,15 @@ returns c =
     let a = arrays sets (g .counts .now) (g .bytes .now) (g .amounts .now) masks good carried in
     no-room-at (g .setup) a sound (g .out .now) (c .if1 .taken)
 
--- src/figures.rt:118:9
 table-of-requires : tie.Need-table-of-requires
 table-of-requires c κs = search needs
 
--- src/figures.rt:119:9
 records-of-requires : tie.Need-records-of-requires
 records-of-requires c κs = search needs
 
--- src/figures.rt:120:9
 blank-requires : tie.Need-blank-requires
 blank-requires c κs = search needs
 
--- src/figures.rt:121:5
 books-all-requires : tie.Need-books-all-requires
 books-all-requires c κs =
     let start = c .before .before .before .before .before .before in
@@ -61,11 +48,9 @@ books-all-requires c κs =
       c .before .before .before .before .if1 .left,
     )
 
--- src/figures.rt:104:1
 same-length : tie.Need-same-length
 same-length c = search needs
 
--- src/figures.rt:104:1
 returns-2 : tie.Need-returns-2
 returns-2 c =
     let g = c .before .before .before .before .before .before .before .before .args in

@@ -10,9 +10,6 @@ use Rattle.machine.proofs.Filled.{Filled, filled-begin, filled-step, filled-all
 use borrow.Author.Needs.{needs}
 use Rattle.shown.proofs.figures.records_of.Statement.{statement}
 use Rattle.shown.proofs.figures.records_of.Tie as tie
-use Rattle.shown.proofs.figures.records_of.Reads as reads
-use Rattle.shown.proofs.figures.records_of.Lts as lts
-use Rattle.machine.proofs.taking.record_of.Reads as record-of-reads
 
 abbrev Inv-loop : tie.InvT-loop
 Inv-loop counts bytes records₀ p₀ records p = (p ≤ sites) × ((sets amounts masks good carried : List ℕ) → Filled sites (recordOf (arrays sets counts bytes amounts masks good carried)) noRecord (records .sites) p)
@@ -20,41 +17,32 @@ Inv-loop counts bytes records₀ p₀ records p = (p ≤ sites) × ((sets amount
 abbrev μ-loop : tie.MeasureT-loop
 μ-loop counts bytes records₀ p₀ records p = sites - p
 
--- src/lib.rt:28:9
 record-of-requires : tie.Need-record-of-requires Inv-loop μ-loop
 record-of-requires c κs = search needs
 
--- src/lib.rt:32:5
 loop-holds : tie.Need-loop-holds Inv-loop μ-loop
 loop-holds c = (search needs, λ sets amounts masks good carried. filled-begin sites _ noRecord _)
 
--- src/lib.rt:33:13
 record-of-requires-2 : tie.Need-record-of-requires-2 Inv-loop μ-loop
 record-of-requires-2 c κs = search needs
 
--- src/lib.rt:34:9
 mul-delivered : tie.Need-mul-delivered Inv-loop μ-loop
 mul-delivered c = search needs
 
--- src/lib.rt:34:9
 element-set-from-delivered : tie.Need-element-set-from-delivered Inv-loop μ-loop
 element-set-from-delivered c = search needs
 
--- src/lib.rt:32:9
 add-p : tie.Need-add-p Inv-loop μ-loop
 add-p c = search needs
 
--- src/lib.rt:32:5
 loop-less : tie.Need-loop-less Inv-loop μ-loop
 loop-less c = search needs
 
--- src/lib.rt:32:5
 loop-again : tie.Need-loop-again Inv-loop μ-loop
 loop-again c =
     let at = c .before .before .loop in
     (search needs, λ sets amounts masks good carried. filled-step sites _ noRecord (at .records .sites) (at .p) (c .record-of2 .result) (c .before .loop-test .taken) (c .record-of2 .ensures sets amounts masks good carried) (at .inv .1 sets amounts masks good carried))
 
--- src/lib.rt:25:1
 returns : tie.Need-returns Inv-loop μ-loop
 returns c = λ sets amounts masks good carried. filled-all sites _ noRecord (c .before .loop .records .sites) (c .before .loop .p) (c .loop-test .left) (c .before .loop .inv .1 sets amounts masks good carried)
 

@@ -16,9 +16,6 @@ use Rattle.machine.specs.QuietParts.{placeIn, hasRead, allRead, read-none, behi
 use borrow.Author.Needs.{needs}
 use Rattle.shown.proofs.quiet.all_read.Statement.{statement}
 use Rattle.shown.proofs.quiet.all_read.Tie as tie
-use Rattle.shown.proofs.quiet.all_read.Reads as reads
-use Rattle.shown.proofs.quiet.all_read.Lts as lts
-use Rattle.masks.proofs.has_site.Reads as has-site-reads
 
 abbrev Inv-loop : tie.InvT-loop
 Inv-loop n down counts logged p₀ p = (p ≤ n) × (allBelow (hasRead down counts) p ≡ true)
@@ -26,31 +23,24 @@ Inv-loop n down counts logged p₀ p = (p ≤ n) × (allBelow (hasRead down coun
 abbrev μ-loop : tie.MeasureT-loop
 μ-loop n down counts logged p₀ p = n - p
 
--- src/quiet.rt:44:18
 element-copy-out-logged : tie.Need-element-copy-out-logged Inv-loop μ-loop
 element-copy-out-logged c = search needs
 
--- src/quiet.rt:46:9
 returns : tie.Need-returns Inv-loop μ-loop
 returns c = let args = c .before .before .args in sym (read-none (args .n) (args .down) (args .counts .now) (c .if1 .taken))
 
--- src/quiet.rt:48:5
 loop-holds : tie.Need-loop-holds Inv-loop μ-loop
 loop-holds c = let args = c .before .before .args in (search needs, all-none (hasRead (args .down) (args .counts .now)))
 
--- src/quiet.rt:49:12
 has-site-requires : tie.Need-has-site-requires Inv-loop μ-loop
 has-site-requires c κs = search needs
 
--- src/quiet.rt:50:13
 add-p : tie.Need-add-p Inv-loop μ-loop
 add-p c = search needs
 
--- src/quiet.rt:48:5
 loop-less : tie.Need-loop-less Inv-loop μ-loop
 loop-less c = search needs
 
--- src/quiet.rt:48:5
 loop-again : tie.Need-loop-again Inv-loop μ-loop
 loop-again c =
     let at = c .before .before .before .loop in
@@ -60,11 +50,9 @@ loop-again c =
           (or-left (hasBit (args .down) (at .p)) _ (sym (c .before .has-site .ensures) ∙ c .if2 .taken)),
     )
 
--- src/quiet.rt:52:17
 cast-i : tie.Need-cast-i Inv-loop μ-loop
 cast-i c = search needs
 
--- src/quiet.rt:54:13
 returns-2 : tie.Need-returns-2 Inv-loop μ-loop
 unfolding allRead
 returns-2 c =
@@ -74,19 +62,15 @@ returns-2 c =
     sym (all-fails (hasRead (args .down) (args .counts .now)) (args .n) (at .p) (c .before .before .before .loop-test .taken)
     (behind (args .down) (args .counts .now) (at .p) (sym (c .before .before .has-site .ensures) ∙ c .before .if2 .left) (rw (le-ltb (at .p) sites (c .if3 .taken)) some)))
 
--- src/quiet.rt:56:19
 add-if4 : tie.Need-add-if4 Inv-loop μ-loop
 add-if4 c = search needs
 
--- src/quiet.rt:56:12
 mul-if4 : tie.Need-mul-if4 Inv-loop μ-loop
 mul-if4 c = search needs
 
--- src/quiet.rt:56:12
 element-copy-out-if4 : tie.Need-element-copy-out-if4 Inv-loop μ-loop
 element-copy-out-if4 c = search needs
 
--- src/quiet.rt:57:13
 returns-3 : tie.Need-returns-3 Inv-loop μ-loop
 unfolding allRead
 returns-3 c =
@@ -96,15 +80,12 @@ returns-3 c =
     sym (all-fails (hasRead (args .down) (args .counts .now)) (args .n) (at .p) (at2 .before .loop-test .taken)
     (behind (args .down) (args .counts .now) (at .p) (sym (at2 .has-site .ensures) ∙ c .before .before .before .if2 .left) (rw (lt-ltb (at .p) sites (c .before .before .if3 .left)) (c .if4 .taken))))
 
--- src/quiet.rt:48:9
 add-p-2 : tie.Need-add-p-2 Inv-loop μ-loop
 add-p-2 c = search needs
 
--- src/quiet.rt:48:5
 loop-less-2 : tie.Need-loop-less-2 Inv-loop μ-loop
 loop-less-2 c = search needs
 
--- src/quiet.rt:48:5
 loop-again-2 : tie.Need-loop-again-2 Inv-loop μ-loop
 loop-again-2 c =
     let at2 = c .before .before .before .before in
@@ -115,7 +96,6 @@ loop-again-2 c =
           (or-right (hasBit (args .down) (at .p)) _ (le-leb (getD (args .counts .now) loggedAt 0) (placeIn (args .counts .now) (at .p)) (rw (lt-ltb (at .p) sites (c .before .before .if3 .left)) (c .if4 .left)))),
     )
 
--- src/quiet.rt:41:1
 returns-4 : tie.Need-returns-4 Inv-loop μ-loop
 unfolding allRead
 returns-4 c =

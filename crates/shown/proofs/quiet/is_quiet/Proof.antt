@@ -6,20 +6,13 @@ use Rattle.machine.proofs.Typed.{is-board}
 use borrow.Author.Needs.{needs}
 use Rattle.shown.proofs.quiet.is_quiet.Statement.{statement}
 use Rattle.shown.proofs.quiet.is_quiet.Tie as tie
-use Rattle.shown.proofs.quiet.is_quiet.Reads as reads
-use Rattle.shown.proofs.quiet.is_quiet.Lts as lts
-use Rattle.shown.proofs.quiet.places_of.Reads as places-of-reads
-use Rattle.shown.proofs.quiet.quiet_by.Reads as quiet-by-reads
 
--- src/quiet.rt:97:18
 places-of-requires : tie.Need-places-of-requires
 places-of-requires c κs = search needs
 
--- src/quiet.rt:98:5
 quiet-by-requires : tie.Need-quiet-by-requires
 quiet-by-requires c κs = search needs
 
--- src/quiet.rt:91:1
 returns : tie.Need-returns
 returns c =
     let placed = c .before .before .before .before in

@@ -8,24 +8,16 @@ use Rattle.shown.proofs.Places.{places-at}
 use borrow.Author.Needs.{needs}
 use Rattle.shown.proofs.quiet.is_quiet_at.Statement.{statement}
 use Rattle.shown.proofs.quiet.is_quiet_at.Tie as tie
-use Rattle.shown.proofs.quiet.is_quiet_at.Reads as reads
-use Rattle.shown.proofs.quiet.is_quiet_at.Lts as lts
-use Rattle.arrays.proofs.load.Reads as load-reads
-use Rattle.shown.proofs.quiet.quiet_by.Reads as quiet-by-reads
 
--- src/quiet.rt:111:9
 load-requires : tie.Need-load-requires
 load-requires c κs = search needs
 
--- src/quiet.rt:112:30
 element-copy-out-quiet-by : tie.Need-element-copy-out-quiet-by
 element-copy-out-quiet-by c = search needs
 
--- src/quiet.rt:112:5
 quiet-by-requires : tie.Need-quiet-by-requires
 quiet-by-requires c κs = search needs
 
--- src/quiet.rt:102:1
 returns : tie.Need-returns
 unfolding view
 returns c =

@@ -9,8 +9,6 @@ use Rattle.shown.proofs.Places.{PlacesTo, place-stored, places-all}
 use borrow.Author.Needs.{needs}
 use Rattle.shown.proofs.quiet.places_of.Statement.{statement}
 use Rattle.shown.proofs.quiet.places_of.Tie as tie
-use Rattle.shown.proofs.quiet.places_of.Reads as reads
-use Rattle.shown.proofs.quiet.places_of.Lts as lts
 
 abbrev Inv-loop : tie.InvT-loop
 Inv-loop logged sites counts₀ p₀ counts p = (p ≤ siteCount) × PlacesTo sites logged counts p
@@ -18,50 +16,39 @@ Inv-loop logged sites counts₀ p₀ counts p = (p ≤ siteCount) × PlacesTo si
 abbrev μ-loop : tie.MeasureT-loop
 μ-loop logged sites counts₀ p₀ counts p = siteCount - p
 
--- src/quiet.rt:83:5
 array-write-counts : tie.Need-array-write-counts Inv-loop μ-loop
 array-write-counts c = search needs
 
--- src/quiet.rt:84:5
 loop-holds : tie.Need-loop-holds Inv-loop μ-loop
 loop-holds c = (search needs, (search needs, refl, λ q h. absurd (omega arith)))
 
--- src/quiet.rt:85:17
 mul-s : tie.Need-mul-s Inv-loop μ-loop
 mul-s c = search needs
 
--- src/quiet.rt:85:17
 array-copy-out-s : tie.Need-array-copy-out-s Inv-loop μ-loop
 array-copy-out-s c = search needs
 
--- src/quiet.rt:86:16
 add-counts : tie.Need-add-counts Inv-loop μ-loop
 add-counts c = search needs
 
--- src/quiet.rt:86:9
 mul-counts : tie.Need-mul-counts Inv-loop μ-loop
 mul-counts c = search needs
 
--- src/quiet.rt:86:9
 array-write-counts-2 : tie.Need-array-write-counts-2 Inv-loop μ-loop
 array-write-counts-2 c = search needs
 
--- src/quiet.rt:84:9
 add-p : tie.Need-add-p Inv-loop μ-loop
 add-p c = search needs
 
--- src/quiet.rt:84:5
 loop-less : tie.Need-loop-less Inv-loop μ-loop
 loop-less c = search needs
 
--- src/quiet.rt:84:5
 loop-again : tie.Need-loop-again Inv-loop μ-loop
 loop-again c =
     let at = c .before .before .loop in
     let args = c .before .before .before .args in
     (search needs, place-stored (args .t1) (args .logged) (at .counts) (at .p) (c .before .loop-test .taken) (at .inv .1))
 
--- src/quiet.rt:78:1
 returns : tie.Need-returns Inv-loop μ-loop
 returns c =
     let at = c .before .loop in

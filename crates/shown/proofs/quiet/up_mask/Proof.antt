@@ -10,33 +10,25 @@ use Rattle.machine.specs.QuietParts.{up-many, up-few}
 use borrow.Author.Needs.{needs}
 use Rattle.shown.proofs.quiet.up_mask.Statement.{statement}
 use Rattle.shown.proofs.quiet.up_mask.Tie as tie
-use Rattle.shown.proofs.quiet.up_mask.Reads as reads
-use Rattle.shown.proofs.quiet.up_mask.Lts as lts
 
--- src/quiet.rt:34:16
 sub-result : tie.Need-sub-result
 sub-result c = search needs
 
--- src/quiet.rt:34:9
 returns : tie.Need-returns
 returns c =
     let args = c .before .args in
     let small : args .down < 2 ^ 8 = search needs in
     sym (up-many (args .n) (args .down) (c .if1 .taken) small)
 
--- src/quiet.rt:36:16
 shl-all : tie.Need-shl-all
 shl-all c = search needs
 
--- src/quiet.rt:36:15
 sub-all : tie.Need-sub-all
 sub-all c = omega (arith, one-shl 8 (c .before .args .n) (c .if1 .left), suc-ones (c .before .args .n))
 
--- src/quiet.rt:37:5
 sub-result-2 : tie.Need-sub-result-2
 sub-result-2 c = and-le-r (c .before .args .down) _
 
--- src/quiet.rt:30:1
 returns-2 : tie.Need-returns-2
 returns-2 c =
     let args = c .before .args in
