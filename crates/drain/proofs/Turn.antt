@@ -33,7 +33,7 @@ use Rattle.drain.specs.declared.Ending.{Ending}
 use Rattle.drain.specs.declared.Ending.the-variants.{Quiet, Spent}
 use Rattle.drain.specs.declared.Drained.{Drained}
 use Rattle.drain.specs.Firsts.{firstBelow, reads, floorAfter}
-use Rattle.drain.specs.Drain.{event, nextOrder, nextRead, nextEvent, draining}
+use Rattle.drain.specs.Drain.{event, endingOf, nextOrder, nextRead, nextEvent, draining}
 use Rattle.drain.proofs.Nexts.{order-found, order-none, read-found, read-none}
 use Rattle.drain.proofs.Loop.{Floor, Going, one-more, message-next, message-low, other-next, other-low, receive-low, order-low, read-low, ends-quiet, ends-spent}
 
@@ -53,7 +53,7 @@ at-start setup limit a ok g = record {
 abbrev pub Ends : Setup → Board → ℕ → Arrays → ℕ → Ending → Type 0
 Ends setup board limit a count ending =
     let end = draining limit limit 0 board in
-    (view setup a ≡ end .board) × ((count ≡ end .count) × ((ending ≡ end .ending) × Right a))
+    (view setup a ≡ end .board) × ((count ≡ end .count) × ((ending ≡ end .ending) × (Right a × (endingOf ending ≡ endingOf (end .ending)))))
 
 module _ (setup : Setup) (board : Board) (limit : ℕ) (a : Arrays) (count floor : ℕ) (w : Working setup board limit a count floor) where
   abbrev b : Board
@@ -85,7 +85,8 @@ module _ (setup : Setup) (board : Board) (limit : ℕ) (a : Arrays) (count floor
 
   ends : (ending : Ending) → draining limit limit 0 board ≡ record { board = b; limit = limit; count = count; ending = ending } → Ends setup board limit a count ending
   ends ending e =
-      (ap (λ (x : Drained). x .board) (sym e), (ap (λ (x : Drained). x .count) (sym e), (ap (λ (x : Drained). x .ending) (sym e), w .right)))
+      let same = ap (λ (x : Drained). x .ending) (sym e) in
+      (ap (λ (x : Drained). x .board) (sym e), (ap (λ (x : Drained). x .count) (sym e), (same, (w .right, ap endingOf same))))
 
   spent : (c : Call) → nextEvent b ≡ event c → count ≡ limit → Ends setup board limit a count Spent
   spent c e l = ends Spent (w .going .same ∙ ends-spent b g limit count c e l)

@@ -57,11 +57,11 @@ isWhole (Read site Whole) = true
 isWhole (Read site (After j)) = false
 isWhole (Crash site) = false
 
--- the answer's number: 6 of a refused drain, 0 otherwise
-abbrev pub refusalOf : Ending → ℕ
-refusalOf Quiet = 0
-refusalOf Spent = 0
-refusalOf (Refused k) = k
+-- document 01's number of the refusal, 0 of what is accepted, and the values that come with it: 0 for quiet, 1 for spent
+abbrev pub endingOf : Ending → ℕ × List ℕ
+endingOf Quiet = (0, 0 ∷ [])
+endingOf Spent = (0, 1 ∷ [])
+endingOf (Refused k) = (k, [])
 
 -- events until the board is quiet or the limit is used up, with the count of those done before
 unfoldable pub draining : ℕ → ℕ → ℕ → Board → Drained

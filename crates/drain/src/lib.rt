@@ -6,7 +6,7 @@ ghost use Rattle.arrays.specs.Arrays.{arrays};
 ghost use Rattle.machine.specs.Soundness.{isSound};
 ghost use Rattle.machine.specs.View.{view, Right};
 ghost use Rattle.invariants.proofs.Reached.{GoodIf};
-ghost use Rattle.drain.specs.Drain.{draining, drained};
+ghost use Rattle.drain.specs.Drain.{endingOf, draining, drained};
 use arrays::BYTES;
 use arrays::COUNTS;
 use arrays::DOWN;
@@ -71,6 +71,7 @@ pub fn drain_events(
     ensures { λ r. ⌜ r .count ≡ draining limit limit 0 (view setup (arrays (now (words .entry)) (now (counts .entry)) (now (bytes .entry)) (now (amounts .entry)) (now (masks .entry)) (now (good .entry)) (now (carried .entry)))) .count ⌝ }
     ensures { λ r. ⌜ r .ending ≡ draining limit limit 0 (view setup (arrays (now (words .entry)) (now (counts .entry)) (now (bytes .entry)) (now (amounts .entry)) (now (masks .entry)) (now (good .entry)) (now (carried .entry)))) .ending ⌝ }
     ensures { λ _. ⌜ Right (arrays (now (words .exit)) (now (counts .exit)) (now (bytes .exit)) (now (amounts .exit)) (now (masks .exit)) (now (good .exit)) (now (carried .exit))) ⌝ }
+    ensures { λ r. ⌜ endingOf (r .ending) ≡ endingOf (draining limit limit 0 (view setup (arrays (now (words .entry)) (now (counts .entry)) (now (bytes .entry)) (now (amounts .entry)) (now (masks .entry)) (now (good .entry)) (now (carried .entry)))) .ending) ⌝ }
 {
     let mut count: u64 = 0;
     let mut floor: usize = 0;
@@ -199,6 +200,7 @@ fn drain_board(board: Board, limit: u64) -> Drained
 // Drain: an unsound board is refused, with nothing done.
 pub fn drain(board: Board, limit: u64) -> Drained
     ensures { λ r. ⌜ r ≡ drained board limit ⌝ }
+    ensures { λ r. ⌜ endingOf (r .ending) ≡ endingOf (drained board limit .ending) ⌝ }
 {
     if board.is_sound() {
         return drain_board(board, limit);

@@ -2,7 +2,7 @@
 // Rests on same for the figures, on printer for texts and numbers, on masks.
 ghost use mathlib.Core.Path.{_≡_};
 ghost use mathlib.Core.List.{_++_};
-ghost use Rattle.printer.specs.Writing.{Put, slicePrinted, answerPrinted};
+ghost use Rattle.printer.specs.Writing.{Put, slicePrinted, writtenOf, answerPrinted};
 ghost use Rattle.figures_table.specs.Table.{signed, accountLine, accountPart, accountLines, siteLine, accountsPart, sitePart, siteParts, closingLine, statementText};
 use crate::same::ACCOUNTS;
 use crate::same::account_at;
@@ -139,6 +139,7 @@ fn statement_lines(figures: &[i64], n: u8, down: u8, at: usize, out: &mut [u8]) 
 pub fn print_statement(figures: &[i64], n: u8, down: u8, out: &mut [u8]) -> Printed
     ensures { λ r. ⌜ r ≡ answerPrinted (statementText (now (figures .entry)) n down) (now (out .entry)) ⌝ }
     ensures { λ _. ⌜ now (out .exit) ≡ slicePrinted (statementText (now (figures .entry)) n down) (now (out .entry)) ⌝ }
+    ensures { λ r. ⌜ writtenOf r ≡ writtenOf (answerPrinted (statementText (now (figures .entry)) n down) (now (out .entry))) ⌝ }
 {
     let needed = statement_lines(figures, n, down, 0, &mut out[0..0]);
     if out.len() < needed {

@@ -17,13 +17,17 @@ use Rattle.machine.specs.declared.Board.{Board}
 use Rattle.machine.specs.declared.Outcome.{Outcome}
 use Rattle.machine.specs.declared.Answer.{Answer}
 use Rattle.machine.specs.declared.Answer.the-variants.{Done, Offered, Refused}
-use Rattle.machine.specs.Calls.{refusalOf, judged, offering, receiving, ordering, reading, crashing}
+use Rattle.machine.specs.Calls.{answerOf, refusalOf, judged, offering, receiving, ordering, reading, crashing}
 use Rattle.machine.specs.Soundness.{isSound}
 use Rattle.machine.specs.Runs.{taking}
 use Rattle.machine.specs.ByMask.{answeredBy}
 use Rattle.machine.specs.View.{view, Right}
 use Rattle.machine.proofs.Causes.{Numbered}
 use Rattle.machine.proofs.Performed.{perform-gives}
+
+-- what is said of an outcome, and of its answer
+pub with-answer : {o x : Outcome} → o ≡ x → (o ≡ x) × (answerOf (o .answer) ≡ answerOf (x .answer))
+with-answer e = (e, ap (λ (y : Outcome). answerOf (y .answer)) e)
 
 -- what is judged answers by the number of its refusal
 judged-by : (l : List Cause) → Numbered l → (back : Board) (x : Outcome) (a : Answer) → x .answer ≡ a → refusalOf a ≡ 0

@@ -30,11 +30,15 @@ use Rattle.machine.specs.Soundness.{sitesOk, crashesOk, isSound}
 
 -- ---- answers
 
--- the number of a refusal; 0 of what is accepted
+-- document 01's number of the refusal, 0 of what is accepted, and the values that come with it: an offer's number
+abbrev pub answerOf : Answer → ℕ × List ℕ
+answerOf Done = (0, [])
+answerOf (Offered m) = (0, m ∷ [])
+answerOf (Refused k) = (k, [])
+
+-- the number alone
 abbrev pub refusalOf : Answer → ℕ
-refusalOf Done = 0
-refusalOf (Offered m) = 0
-refusalOf (Refused k) = k
+refusalOf answer = answerOf answer .0
 
 -- the outcome: the first cause that applies refuses, and hands a board back; else what is accepted
 unfoldable pub judged : List Cause → Board → Outcome → Outcome

@@ -6,7 +6,7 @@ ghost use mathlib.Core.Bool.{true};
 ghost use Rattle.machine.specs.declared.Answer.the-variants.{Done};
 ghost use Rattle.machine.specs.Soundness.{isSound};
 ghost use Rattle.machine.specs.ByMask.{answeredBy};
-ghost use Rattle.machine.specs.Calls.{refusalOf, offering, receiving, ordering, reading, crashing};
+ghost use Rattle.machine.specs.Calls.{answerOf, refusalOf, offering, receiving, ordering, reading, crashing};
 ghost use Rattle.machine.specs.Runs.{taking};
 use crate::Answer;
 use crate::Board;
@@ -99,6 +99,7 @@ impl Board {
         cut: Cut,
     ) -> Outcome
         ensures { λ r. ⌜ r ≡ offering self site kind account other amount cut ⌝ }
+        ensures { λ r. ⌜ answerOf (r .answer) ≡ answerOf (offering self site kind account other amount cut .answer) ⌝ }
     {
         if self.is_sound() {
             let table = self.table;
@@ -132,6 +133,7 @@ impl Board {
     // Receive: the message leaves the flight, and its receiver takes the step of its form.
     pub fn receive(self, form: usize, m: usize, from: usize, to: usize, cut: Cut) -> Outcome
         ensures { λ r. ⌜ r ≡ receiving self form m from to cut ⌝ }
+        ensures { λ r. ⌜ answerOf (r .answer) ≡ answerOf (receiving self form m from to cut .answer) ⌝ }
     {
         if self.is_sound() {
             let taken = self.take(Call::Receive {
@@ -152,6 +154,7 @@ impl Board {
     // Order: the oracle moves m's entry from the pool to the end of the log.
     pub fn order(self, m: usize) -> Outcome
         ensures { λ r. ⌜ r ≡ ordering self m ⌝ }
+        ensures { λ r. ⌜ answerOf (r .answer) ≡ answerOf (ordering self m .answer) ⌝ }
     {
         if self.is_sound() {
             let taken = self.take(Call::Order { posting: m });
@@ -166,6 +169,7 @@ impl Board {
     // Read: a site takes the log's next entry.
     pub fn read(self, site: usize, cut: Cut) -> Outcome
         ensures { λ r. ⌜ r ≡ reading self site cut ⌝ }
+        ensures { λ r. ⌜ answerOf (r .answer) ≡ answerOf (reading self site cut .answer) ⌝ }
     {
         if self.is_sound() {
             let taken = self.take(Call::Read {
@@ -183,6 +187,7 @@ impl Board {
     // Crash: a site goes down for good.
     pub fn crash(self, site: usize) -> Outcome
         ensures { λ r. ⌜ r ≡ crashing self site ⌝ }
+        ensures { λ r. ⌜ answerOf (r .answer) ≡ answerOf (crashing self site .answer) ⌝ }
     {
         if self.is_sound() {
             let taken = self.take(Call::Crash { site: site });

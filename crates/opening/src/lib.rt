@@ -4,7 +4,7 @@ ghost use mathlib.Core.Path.{_≡_};
 ghost use Rattle.site.specs.Sites.{blankSite, blankTally};
 ghost use Rattle.posting.specs.Conflicts.{emptyTable};
 ghost use Rattle.machine.specs.Boards.{freshBoard};
-ghost use Rattle.machine.specs.Calls.{starting};
+ghost use Rattle.machine.specs.Calls.{answerOf, starting};
 ghost use Rattle.steps.specs.Causes.{firstCause};
 ghost use Rattle.machine.specs.ByMask.{startCauses};
 use flight::Flight;
@@ -121,6 +121,7 @@ pub fn fresh(setup: Setup) -> Board
 // Start; a refused start hands back the blank board, all zeros.
 pub fn start(n: u8, f: u8, matrix: u16) -> Outcome
     ensures { λ r. ⌜ r ≡ starting n f matrix ⌝ }
+    ensures { λ r. ⌜ answerOf (r .answer) ≡ answerOf (starting n f matrix .answer) ⌝ }
 {
     let why = start_refusal(n, f, matrix);
     if why != 0 {

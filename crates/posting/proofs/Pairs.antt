@@ -1,22 +1,14 @@
 -- What a loop over the sixteen pairs of kinds has shown after n of them.
 -- Rests on KindLaws. Assumes nothing.
-use Prim.Native.Nat.{ℕ, _+_, _*_, _/_, _%_, _<_}
+use Prim.Native.Nat.{ℕ, _+_, _/_, _%_, _<_}
 use mathlib.Core.Path.{_≡_, refl, sym, ap, _∙_}
 use mathlib.Core.Bool.{Bool, true, false, not, Bool·beq}
 use native.Mathlib.Numerals.{add-one}
-use native.Mathlib.Omega.{arith}
-use lib.Dec.{eqb}
-use lib.ListN.{getD}
 use Rattle.sets.specs.Truth.{and-intro}
 use Rattle.sets.specs.Below.{allBelow}
 use Rattle.sets.specs.BelowLaws.{all-fails}
-use Rattle.posting.specs.Kinds.{allPairs, fixedPairs, fixedPair}
+use Rattle.posting.specs.Kinds.{allPairs}
 use Rattle.posting.specs.KindLaws.{pairs-entries}
-
--- pair n of the table of fixed pairs
-pub fixed-entry : (n : ℕ) → fixedPair (n / 4) (n % 4) ≡ eqb (getD fixedPairs n 0) 1
-unfolding fixedPair
-fixed-entry n = let e : 4 * (n / 4) + n % 4 ≡ n = omega arith in ap (λ (k : ℕ). eqb (getD fixedPairs k 0) 1) e
 
 pub is-false : (b : Bool) → Bool·beq b false ≡ not b
 is-false true = refl

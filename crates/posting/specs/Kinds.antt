@@ -62,17 +62,17 @@ unfoldable pub symmetric : ℕ → Bool
 symmetric matrix = allPairs (turnedAlike matrix)
 
 -- 0-2, 0-3, 1-1, 1-2, 2-3, both ways round: the pairs of kinds that don't commute on a shared account
-unfoldable pub fixedPairs : List ℕ
+unfoldable pub fixedPairs : List (List ℕ)
 fixedPairs =
-    0 ∷ 0 ∷ 1 ∷ 1
-    ∷ 0 ∷ 1 ∷ 1 ∷ 0
-    ∷ 1 ∷ 1 ∷ 0 ∷ 1
-    ∷ 1 ∷ 0 ∷ 1 ∷ 0
+    (0 ∷ 0 ∷ 1 ∷ 1 ∷ [])
+    ∷ (0 ∷ 1 ∷ 1 ∷ 0 ∷ [])
+    ∷ (1 ∷ 1 ∷ 0 ∷ 1 ∷ [])
+    ∷ (1 ∷ 0 ∷ 1 ∷ 0 ∷ [])
     ∷ []
 
 -- kinds i and j are a fixed pair
 unfoldable pub fixedPair : ℕ → ℕ → Bool
-fixedPair i j = eqb (getD fixedPairs (4 * i + j) 0) 1
+fixedPair i j = eqb (getD (getD fixedPairs i []) j 0) 1
 
 -- if kinds i and j are a fixed pair, the matrix says yes for them
 unfoldable pub pairOk : ℕ → ℕ → ℕ → Bool

@@ -30,24 +30,12 @@ pub const TRADE_LIMIT: u32 = 1_000_000_000;
 
 pub const RATE_LIMIT: u32 = 10_000;
 
-// The pairs of kinds that don't commute on a shared account, both ways round: row i, column j at 4 i + j.
-pub const FIXED_PAIRS: [u8; 16] = [
-    0, // 0-0
-    0, // 0-1
-    1, // 0-2
-    1, // 0-3
-    0, // 1-0
-    1, // 1-1
-    1, // 1-2
-    0, // 1-3
-    1, // 2-0
-    1, // 2-1
-    0, // 2-2
-    1, // 2-3
-    1, // 3-0
-    0, // 3-1
-    1, // 3-2
-    0, // 3-3
+// The pairs of kinds that don't commute on a shared account, both ways round: row i, column j.
+pub const FIXED_PAIRS: [[u8; 4]; 4] = [
+    [0, 0, 1, 1], // 0-2, 0-3
+    [0, 1, 1, 0], // 1-1, 1-2
+    [1, 1, 0, 1], // 2-0, 2-1, 2-3
+    [1, 0, 1, 0], // 3-0, 3-2
 ];
 
 // A row of the table: the site that offered it, then the fields of document 01's table of kinds.
@@ -171,9 +159,10 @@ fn lacks_pair(matrix: u16, n: u8) -> bool
     requires { ⌜ n < 16 ⌝ }
     ensures { λ r. ⌜ r ≡ not (pairOk matrix (n / 4) (n % 4)) ⌝ }
 {
-    let k = n as usize;
-    if FIXED_PAIRS[k] == 1 {
-        let entry = matrix_entry(matrix, n / KINDS, n % KINDS);
+    let i = n / KINDS;
+    let j = n % KINDS;
+    if FIXED_PAIRS[i as usize][j as usize] == 1 {
+        let entry = matrix_entry(matrix, i, j);
         return entry == false;
     }
     false

@@ -14,7 +14,7 @@ use borrow.Author.Tests.{lt-ltb, ltb-true, ltb-false, le-leb, lt-leb}
 use Rattle.sets.specs.Truth.{test}
 use Rattle.printer.specs.declared.Printed.{Printed}
 use Rattle.printer.specs.declared.Printed.the-variants.{Written, Short}
-use Rattle.printer.specs.Writing.{lastPlace, next, after, putting, Put, slicePrinted, answerPrinted}
+use Rattle.printer.specs.Writing.{lastPlace, next, after, putting, Put, slicePrinted, writtenOf, answerPrinted}
 
 -- ---- one text after another
 
@@ -76,15 +76,19 @@ unfolding putting
 none-held [] at = refl
 none-held (x ∷ a) at = none-held a (next at)
 
+-- what a contract says of a text printed into a slice: the answer, the slice after it, and the answer's number and values
+abbrev pub Prints : List ℕ → List ℕ → Printed → List ℕ → Type 0
+Prints text s x t = (x ≡ answerPrinted text s) × ((t ≡ slicePrinted text s) × (writtenOf x ≡ writtenOf (answerPrinted text s)))
+
 -- a text no longer than the slice, written
-pub at-once : (text s u : List ℕ) (end : ℕ) → length s < lastPlace → length text ≤ length s → Put text 0 s u end
-    → (Written end ≡ answerPrinted text s) × (u ≡ slicePrinted text s)
+pub at-once : (text s u : List ℕ) (end : ℕ) → length s < lastPlace → length text ≤ length s → Put text 0 s u end → Prints text s (Written end) u
 unfolding answerPrinted slicePrinted
 at-once text s u end room l x =
     let n : 0 + length text ≡ length text = omega arith in
+    let all : end ≡ length text = omega (arith, x .moved, after-is text 0 (omega arith)) in
     rw (le-leb (length text) (length s) l) (
-      ap Written (omega (arith, x .moved, after-is text 0 (omega arith))),
-      x .holds ∙ putting-sets text s 0 (omega arith) ∙ sets-eq text s 0 (omega arith) ∙ ap (λ (k : ℕ). text ++ drop k s) n,
+      ap Written all,
+      (x .holds ∙ putting-sets text s 0 (omega arith) ∙ sets-eq text s 0 (omega arith) ∙ ap (λ (k : ℕ). text ++ drop k s) n, ap (λ (k : ℕ). writtenOf (Written k)) all),
     )
 
 -- the text was counted on no bytes of the slice, which are t after that
@@ -95,12 +99,11 @@ module _ (text s t : List ℕ) (needed : ℕ) (counted : Put text 0 [] t needed)
   place-is : needed ≡ min (0 + length text) lastPlace
   place-is = counted .moved ∙ after-is text 0 (omega arith)
 
-  pub too-short : length (t ++ s) < needed → (Short ≡ answerPrinted text s) × (t ++ s ≡ slicePrinted text s)
+  pub too-short : length (t ++ s) < needed → Prints text s Short (t ++ s)
   unfolding answerPrinted slicePrinted
-  too-short h = rw (lt-leb (length text) (length s) (omega (arith, place-is, ap length stays))) (refl, stays)
+  too-short h = rw (lt-leb (length text) (length s) (omega (arith, place-is, ap length stays))) (refl, (stays, refl))
 
-  pub written : (u : List ℕ) (end : ℕ) → length s < lastPlace → needed ≤ length (t ++ s) → Put text 0 (t ++ s) u end
-      → (Written end ≡ answerPrinted text s) × (u ≡ slicePrinted text s)
+  pub written : (u : List ℕ) (end : ℕ) → length s < lastPlace → needed ≤ length (t ++ s) → Put text 0 (t ++ s) u end → Prints text s (Written end) u
   written u end room h x =
       let l : length text ≤ length s = omega (arith, place-is, ap length stays) in
       at-once text s u end room l (rw stays at x)

@@ -41,6 +41,11 @@ fits text slice = leb (length text) (length slice)
 unfoldable pub slicePrinted : List ℕ → List ℕ → List ℕ
 slicePrinted text slice = cond (fits text slice) (text ++ drop (length text) slice) slice
 
+-- document 01's number of the refusal, 16 of a lent slice that is too short, 0 of what is accepted, and the values that come with it: the count of bytes
+abbrev pub writtenOf : Printed → ℕ × List ℕ
+writtenOf (Written count) = (0, count ∷ [])
+writtenOf Short = (16, [])
+
 -- how many bytes were written, or that the slice is too short
 unfoldable pub answerPrinted : List ℕ → List ℕ → Printed
 answerPrinted text slice = cond (fits text slice) (Written (length text)) Short

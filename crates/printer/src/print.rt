@@ -8,7 +8,7 @@ ghost use lib.ListN.{length};
 ghost use Rattle.posting.specs.Records.{numbersOf};
 ghost use Rattle.books.specs.Books.{recordOf};
 ghost use Rattle.printer.specs.Output.{lastDigit, decimal, eventLine, eventLines, items, siteLine, siteLines, logLine, quietLine, boardLines, printedOf, refusedLine, space, upWord, downWord};
-ghost use Rattle.printer.specs.Writing.{Put, slicePrinted, answerPrinted, surelyFits};
+ghost use Rattle.printer.specs.Writing.{Put, slicePrinted, writtenOf, answerPrinted, surelyFits};
 use crate::Ended;
 use crate::Printed;
 use books::Records;
@@ -284,6 +284,7 @@ fn surely_fits(events: usize, n: u8, room: usize) -> bool
 pub fn print_run(refusals: &[u8], ended: Ended, out: &mut [u8]) -> Printed
     ensures { λ r. ⌜ r ≡ answerPrinted (printedOf (now (refusals .entry)) ended) (now (out .entry)) ⌝ }
     ensures { λ _. ⌜ now (out .exit) ≡ slicePrinted (printedOf (now (refusals .entry)) ended) (now (out .entry)) ⌝ }
+    ensures { λ r. ⌜ writtenOf r ≡ writtenOf (answerPrinted (printedOf (now (refusals .entry)) ended) (now (out .entry))) ⌝ }
 {
     if surely_fits(refusals.len(), ended.n, out.len()) {
         let end = run_lines(refusals, ended, 0, out);
@@ -301,6 +302,7 @@ pub fn print_run(refusals: &[u8], ended: Ended, out: &mut [u8]) -> Printed
 pub fn print_refused(refusal: u8, out: &mut [u8]) -> Printed
     ensures { λ r. ⌜ r ≡ answerPrinted (refusedLine refusal) (now (out .entry)) ⌝ }
     ensures { λ _. ⌜ now (out .exit) ≡ slicePrinted (refusedLine refusal) (now (out .entry)) ⌝ }
+    ensures { λ r. ⌜ writtenOf r ≡ writtenOf (answerPrinted (refusedLine refusal) (now (out .entry))) ⌝ }
 {
     let needed = refused_line(refusal, 0, &mut out[0..0]);
     if out.len() < needed {

@@ -26,7 +26,7 @@ use Rattle.printer.specs.declared.Ended.{Ended}
 use Rattle.printer.specs.declared.Printed.{Printed}
 use Rattle.decoder.specs.RunFile.{setupOf, headerOk, lengthOk, eventsOk, eventCount, eventLimit, wellFormed, callsOf}
 use Rattle.printer.specs.Output.{refusedLine, printedOf}
-use Rattle.printer.specs.Writing.{slicePrinted, answerPrinted}
+use Rattle.printer.proofs.Writing.{Prints}
 use Rattle.steps.specs.Causes.{firstCause}
 use Rattle.machine.specs.ByMask.{startCauses, refusing, taken}
 use Rattle.machine.proofs.Causes as causes
@@ -50,8 +50,8 @@ unfolding printedRun
 run-printed b last calls numbers quiet ended el en eq ee = rw (ee, eq, el, en)
 
 -- a text printed, by another name
-pub printed-as : {a b t : List ℕ} {x : Printed} (s : List ℕ) → a ≡ b → (x ≡ answerPrinted a s) × (t ≡ slicePrinted a s) → (x ≡ answerPrinted b s) × (t ≡ slicePrinted b s)
-printed-as s e (h, k) = (rw e at h, rw e at k)
+pub printed-as : {a b t : List ℕ} {x : Printed} (s : List ℕ) → a ≡ b → Prints a s x t → Prints b s x t
+printed-as s e (h, (k, l)) = (rw e at h, (rw e at k, rw e at l))
 
 pub malformed-printed : (input : List ℕ) → wellFormed input ≡ false → refusedLine 1 ≡ printed input
 unfolding printed

@@ -6,13 +6,13 @@ ghost use mathlib.Core.List.{_++_};
 ghost use lib.ListN.{length, take, drop};
 ghost use Rattle.arrays.specs.Arrays.{arrays};
 ghost use Rattle.machine.specs.Boards.{freshBoard};
-ghost use Rattle.machine.specs.Calls.{refusalOf};
+ghost use Rattle.machine.specs.Calls.{answerOf};
 ghost use Rattle.machine.specs.Runs.{running};
 ghost use Rattle.machine.specs.View.{view, Right};
 ghost use Rattle.decoder.specs.RunFile.{eventLimit, eventCount, callsOf};
 ghost use Rattle.runfile.specs.Program.{StaysSound, refusals, printedRun, printed};
 ghost use Rattle.runfile.specs.Parts.{callsFrom};
-ghost use Rattle.printer.specs.Writing.{slicePrinted, answerPrinted};
+ghost use Rattle.printer.specs.Writing.{slicePrinted, writtenOf, answerPrinted};
 use crate::ended_on;
 use crate::event::perform_at;
 use arrays::BYTES;
@@ -36,7 +36,7 @@ use site::Setup;
 
 // The number of a refusal; 0 of what is accepted.
 pub fn refusal_of(answer: Answer) -> u8
-    ensures { λ r. ⌜ r ≡ refusalOf answer ⌝ }
+    ensures { λ r. ⌜ r ≡ answerOf answer .0 ⌝ }
 {
     match answer {
         Answer::Done => {
@@ -93,6 +93,7 @@ fn run_from(input: &[u8], setup: Setup, out: &mut [u8]) -> Printed
     requires { ⌜ StaysSound (freshBoard setup) × (eventCount (now input) ≤ eventLimit) ⌝ }
     ensures { λ r. ⌜ r ≡ answerPrinted (printedRun (freshBoard setup) (callsOf (now (input .entry)))) (now (out .entry)) ⌝ }
     ensures { λ _. ⌜ now (out .exit) ≡ slicePrinted (printedRun (freshBoard setup) (callsOf (now (input .entry)))) (now (out .entry)) ⌝ }
+    ensures { λ r. ⌜ writtenOf r ≡ writtenOf (answerPrinted (printedRun (freshBoard setup) (callsOf (now (input .entry)))) (now (out .entry))) ⌝ }
 {
     let mut words = [0; SETS];
     let mut counts = [0; COUNTS];
@@ -126,6 +127,7 @@ fn run_from(input: &[u8], setup: Setup, out: &mut [u8]) -> Printed
 pub fn run_file(input: &[u8], out: &mut [u8]) -> Printed
     ensures { λ r. ⌜ r ≡ answerPrinted (printed (now (input .entry))) (now (out .entry)) ⌝ }
     ensures { λ _. ⌜ now (out .exit) ≡ slicePrinted (printed (now (input .entry))) (now (out .entry)) ⌝ }
+    ensures { λ r. ⌜ writtenOf r ≡ writtenOf (answerPrinted (printed (now (input .entry))) (now (out .entry))) ⌝ }
 {
     if well_formed(input) {
         let setup = setup_of(input);

@@ -1,7 +1,7 @@
 -- The books of a sound board: its records may be posted, the copy of its records, its books from a sheet of zeros, and a law for each return.
 -- Rests on SoundTest and on the laws of books. Assumes nothing.
 use Prim.Native.Nat.{ℕ, zero, suc, _+_, _*_, _<_, _≤_}
-use mathlib.Core.Path.{_≡_, refl, sym, _∙_}
+use mathlib.Core.Path.{_≡_, refl, sym, ap, _∙_}
 use mathlib.Core.Logic.{inl, inr, _≢_}
 use mathlib.Core.Bool.{true}
 use mathlib.Core.List.{List, [], _∷_, _++_, map, map-append}
@@ -31,16 +31,22 @@ use Rattle.books.proofs.Lists.{getD-tabulate}
 use Rattle.books.proofs.Blocks.{length-numbers}
 use Rattle.books.proofs.Sheets.{blank-figures}
 use Rattle.machine.specs.declared.Board.{Board}
+use Rattle.machine.specs.declared.Answer.{Answer}
 use Rattle.machine.specs.declared.Answer.the-variants.{Done, Refused}
 use Rattle.machine.specs.Boards.{siteAt}
 use Rattle.machine.specs.Soundness.{isSound}
 use Rattle.steps.specs.Causes.{firstCause, siteCauses}
+use Rattle.machine.specs.Calls.{answerOf}
 use Rattle.machine.specs.Figures.{recordOf, figuresOf, figuresOfAll, shown, showing, showingAll}
 use Rattle.machine.specs.View.{siteOf, rowOf, tableOf, view}
 use Rattle.machine.specs.View as view-of
 use Rattle.machine.proofs.SoundTest.{sound-facts}
 use Rattle.machine.proofs.Local.{site-at, site-record}
 use Rattle.machine.proofs.ByteStores.{table-same}
+
+-- beside the answer and the slice, the answer's number and values
+pub with-answer : {a b : Answer} {s t : List ℤ} → (a ≡ b) × (s ≡ t) → (a ≡ b) × ((s ≡ t) × (answerOf a ≡ answerOf b))
+with-answer e = (e .0, (e .1, ap answerOf (e .0)))
 
 -- ---- what may be posted
 

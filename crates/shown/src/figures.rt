@@ -11,6 +11,7 @@ ghost use Rattle.site.specs.Sites.{sites};
 ghost use Rattle.arrays.specs.Arrays.{arrays};
 ghost use Rattle.machine.specs.View.{recordOf, tableOf, view};
 ghost use Rattle.machine.specs.Soundness.{isSound};
+ghost use Rattle.machine.specs.Calls.{answerOf};
 ghost use Rattle.machine.specs.Figures.{showing, showingAll};
 use arrays::BYTES;
 use arrays::COUNTS;
@@ -49,6 +50,7 @@ pub fn books_sound(board: Board, site: usize, out: &mut [i64]) -> Answer
     requires { ⌜ isSound board ≡ true ⌝ }
     ensures { λ r. ⌜ r ≡ showing board site (now (out .entry)) .answer ⌝ }
     ensures { λ _. ⌜ now (out .exit) ≡ showing board site (now (out .entry)) .slice ⌝ }
+    ensures { λ r. ⌜ answerOf r ≡ answerOf (showing board site (now (out .entry)) .answer) ⌝ }
 {
     let setup = board.setup;
     // showing figures is no act: no site counts as down
@@ -72,6 +74,7 @@ pub fn books_all_sound(board: Board, out: &mut [i64]) -> Answer
     requires { ⌜ isSound board ≡ true ⌝ }
     ensures { λ r. ⌜ r ≡ showingAll board (now (out .entry)) .answer ⌝ }
     ensures { λ _. ⌜ now (out .exit) ≡ showingAll board (now (out .entry)) .slice ⌝ }
+    ensures { λ r. ⌜ answerOf r ≡ answerOf (showingAll board (now (out .entry)) .answer) ⌝ }
 {
     let setup = board.setup;
     let n = setup.n as usize;
@@ -109,7 +112,7 @@ pub fn books_all_at(
     out: &mut [i64],
 ) -> Answer
     requires { ⌜ (setup .n ≤ sites) × ((p : ℕ) → p < setup .n → Postable (tableOf (arrays [] (now counts) (now bytes) (now amounts) [] [] [])) (recordOf (arrays [] (now counts) (now bytes) (now amounts) [] [] []) p)) ⌝ }
-    ensures { λ r. ⌜ ((sets masks good carried : List ℕ) → isSound (view setup (arrays sets (now (counts .entry)) (now (bytes .entry)) (now (amounts .entry)) masks good carried)) ≡ true → (r ≡ showingAll (view setup (arrays sets (now (counts .entry)) (now (bytes .entry)) (now (amounts .entry)) masks good carried)) (now (out .entry)) .answer) × (now (out .exit) ≡ showingAll (view setup (arrays sets (now (counts .entry)) (now (bytes .entry)) (now (amounts .entry)) masks good carried)) (now (out .entry)) .slice)) ⌝ }
+    ensures { λ r. ⌜ ((sets masks good carried : List ℕ) → isSound (view setup (arrays sets (now (counts .entry)) (now (bytes .entry)) (now (amounts .entry)) masks good carried)) ≡ true → (r ≡ showingAll (view setup (arrays sets (now (counts .entry)) (now (bytes .entry)) (now (amounts .entry)) masks good carried)) (now (out .entry)) .answer) × (now (out .exit) ≡ showingAll (view setup (arrays sets (now (counts .entry)) (now (bytes .entry)) (now (amounts .entry)) masks good carried)) (now (out .entry)) .slice) × (answerOf r ≡ answerOf (showingAll (view setup (arrays sets (now (counts .entry)) (now (bytes .entry)) (now (amounts .entry)) masks good carried)) (now (out .entry)) .answer))) ⌝ }
 {
     let n = setup.n as usize;
     if out.len() < FIGURES * n {
@@ -126,6 +129,7 @@ pub fn books_all_at(
 pub fn books(board: Board, site: usize, out: &mut [i64]) -> Answer
     ensures { λ r. ⌜ r ≡ showing board site (now (out .entry)) .answer ⌝ }
     ensures { λ _. ⌜ now (out .exit) ≡ showing board site (now (out .entry)) .slice ⌝ }
+    ensures { λ r. ⌜ answerOf r ≡ answerOf (showing board site (now (out .entry)) .answer) ⌝ }
 {
     if board.is_sound() {
         return books_sound(board, site, out);
@@ -137,6 +141,7 @@ pub fn books(board: Board, site: usize, out: &mut [i64]) -> Answer
 pub fn books_all(board: Board, out: &mut [i64]) -> Answer
     ensures { λ r. ⌜ r ≡ showingAll board (now (out .entry)) .answer ⌝ }
     ensures { λ _. ⌜ now (out .exit) ≡ showingAll board (now (out .entry)) .slice ⌝ }
+    ensures { λ r. ⌜ answerOf r ≡ answerOf (showingAll board (now (out .entry)) .answer) ⌝ }
 {
     if board.is_sound() {
         return books_all_sound(board, out);

@@ -25,7 +25,7 @@ use Rattle.invariants.proofs.Start.{reached-good}
 use Rattle.steps.specs.declared.Call.{Call}
 use Rattle.machine.specs.declared.Outcome.{Outcome}
 use Rattle.machine.specs.Soundness.{isSound}
-use Rattle.machine.specs.Calls.{refusalOf}
+use Rattle.machine.specs.Calls.{answerOf, refusalOf}
 use Rattle.machine.specs.Runs.{taking, running}
 use Rattle.shown.proofs.Showing.{length-all}
 use Rattle.machine.specs.Figures.{figuresOfAll, shown, showingAll}
@@ -93,10 +93,11 @@ module _ (setup : Setup) (calls : List Call) (limit : ℕ) (a d : Arrays) (run :
 
   pub settled-books :
       StaysSound (freshBoard setup) → (answer : Answer) (before after : List ℤ)
-      → (isSound (view setup d) ≡ true → (answer ≡ showingAll (view setup d) before .answer) × (after ≡ showingAll (view setup d) before .slice))
+      → (isSound (view setup d) ≡ true
+      → (answer ≡ showingAll (view setup d) before .answer) × (after ≡ showingAll (view setup d) before .slice) × (answerOf answer ≡ answerOf (showingAll (view setup d) before .answer)))
       → (answer ≡ showingAll (settledRun setup calls limit .board) before .answer) × (after ≡ showingAll (settledRun setup calls limit .board) before .slice)
   settled-books stays answer before after h =
-      let (e, f) = h (rw settled-view (settled-sound setup calls limit stays)) in
+      let (e, f, said) = h (rw settled-view (settled-sound setup calls limit stays)) in
       (rw settled-view at e, rw settled-view at f)
 
 -- ---- the figures

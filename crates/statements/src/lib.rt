@@ -9,7 +9,7 @@ ghost use Rattle.machine.specs.Figures.{showingAll};
 ghost use Rattle.invariants.proofs.Reached.{GoodIf};
 ghost use Rattle.decoder.specs.RunFile.{eventLimit, eventCount, callsOf};
 ghost use Rattle.runfile.specs.Program.{StaysSound};
-ghost use Rattle.printer.specs.Writing.{slicePrinted, answerPrinted};
+ghost use Rattle.printer.specs.Writing.{slicePrinted, writtenOf, answerPrinted};
 ghost use Rattle.statements.specs.Statement.{settledRun, statedRun, stated};
 use arrays::BYTES;
 use arrays::COUNTS;
@@ -106,6 +106,7 @@ fn state_from(input: &[u8], setup: Setup, out: &mut [u8]) -> Printed
     requires { ⌜ StaysSound (freshBoard setup) × GoodIf false (freshBoard setup) × (eventCount (now input) ≤ eventLimit) ⌝ }
     ensures { λ r. ⌜ r ≡ answerPrinted (statedRun (freshBoard setup) (callsOf (now (input .entry)))) (now (out .entry)) ⌝ }
     ensures { λ _. ⌜ now (out .exit) ≡ slicePrinted (statedRun (freshBoard setup) (callsOf (now (input .entry)))) (now (out .entry)) ⌝ }
+    ensures { λ r. ⌜ writtenOf r ≡ writtenOf (answerPrinted (statedRun (freshBoard setup) (callsOf (now (input .entry)))) (now (out .entry))) ⌝ }
 {
     let mut figures = [0; ALL_FIGURES];
     let settled = settle(input, setup, DRAIN, &mut figures);
@@ -118,6 +119,7 @@ fn state_from(input: &[u8], setup: Setup, out: &mut [u8]) -> Printed
 pub fn statement(input: &[u8], out: &mut [u8]) -> Printed
     ensures { λ r. ⌜ r ≡ answerPrinted (stated (now (input .entry))) (now (out .entry)) ⌝ }
     ensures { λ _. ⌜ now (out .exit) ≡ slicePrinted (stated (now (input .entry))) (now (out .entry)) ⌝ }
+    ensures { λ r. ⌜ writtenOf r ≡ writtenOf (answerPrinted (stated (now (input .entry))) (now (out .entry))) ⌝ }
 {
     if well_formed(input) {
         let setup = setup_of(input);

@@ -1,7 +1,8 @@
 -- `drain` meets its contract.
 -- Assumes nothing.
-use mathlib.Core.Path.{sym, _∙_}
-use Rattle.drain.specs.Drain.{drained}
+use mathlib.Core.Path.{refl, sym, ap, _∙_}
+use Rattle.drain.specs.declared.Drained.{Drained}
+use Rattle.drain.specs.Drain.{endingOf, drained}
 use borrow.Author.Needs.{needs}
 use Rattle.drain.proofs.drain.Statement.{statement}
 use Rattle.drain.proofs.drain.Tie as tie
@@ -16,11 +17,12 @@ returns : tie.Need-returns
 unfolding drained
 returns c =
     let at = c .before .before in
-    rw (sym (at .is-sound .ensures) ∙ c .before .if1 .taken) (c .drain-board .ensures)
+    let same = c .drain-board .ensures in
+    rw (sym (at .is-sound .ensures) ∙ c .before .if1 .taken) (same, ap (λ (x : Drained). endingOf (x .ending)) same)
 
 returns-2 : tie.Need-returns-2
 unfolding drained
-returns-2 c = rw (sym (c .before .is-sound .ensures) ∙ c .if1 .left)
+returns-2 c = rw (sym (c .before .is-sound .ensures) ∙ c .if1 .left) (refl, refl)
 
 pub drain-spec : {M : Type 1} → statement M
 drain-spec = tie.close (tie.spec is-sound-requires drain-board-requires returns returns-2)

@@ -17,7 +17,7 @@ same-length c = search needs
 
 returns : tie.Need-returns
 returns c =
-    let (answer, slice) = c .before .before .before .before .before .run-file .ensures in
+    let (answer, (slice, said)) = c .before .before .before .before .before .run-file .ensures in
     (ap countOf (sym (c .before .answer .given .1) ∙ answer), slice)
 
 enum-told : tie.Need-enum-told
@@ -28,7 +28,7 @@ same-length-2 c = search needs
 
 returns-2 : tie.Need-returns-2
 returns-2 c =
-    let (answer, slice) = c .before .before .before .before .run-file .ensures in
+    let (answer, (slice, said)) = c .before .before .before .before .run-file .ensures in
     (ap countOf (sym (c .enum-told .given .1) ∙ answer), slice)
 
 pub run-file-spec : {M : Type 1} → statement M

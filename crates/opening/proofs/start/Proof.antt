@@ -2,6 +2,7 @@
 -- Assumes nothing.
 use mathlib.Core.Path.{sym, _∙_}
 use Rattle.machine.proofs.Causes.{start-refused, start-done}
+use Rattle.machine.proofs.Answered.{with-answer}
 use borrow.Author.Needs.{needs}
 use Rattle.opening.proofs.start.Statement.{statement}
 use Rattle.opening.proofs.start.Tie as tie
@@ -16,7 +17,7 @@ returns : tie.Need-returns
 returns c =
     let at = c .before in
     let at2 = at .before .before in
-    start-refused (at2 .args .n) (at2 .args .f) (at2 .args .matrix) _ _ (at .before .start-refusal .ensures) (at .if1 .taken) (c .fresh .ensures)
+    with-answer (start-refused (at2 .args .n) (at2 .args .f) (at2 .args .matrix) _ _ (at .before .start-refusal .ensures) (at .if1 .taken) (c .fresh .ensures))
 
 fresh-requires-2 : tie.Need-fresh-requires-2
 fresh-requires-2 c κs = search needs
@@ -25,7 +26,7 @@ returns-2 : tie.Need-returns-2
 returns-2 c =
     let at = c .before in
     let at2 = at .before .before in
-    start-done (at2 .args .n) (at2 .args .f) (at2 .args .matrix) _ _ (at .before .start-refusal .ensures) (at .if1 .left) (c .fresh2 .ensures)
+    with-answer (start-done (at2 .args .n) (at2 .args .f) (at2 .args .matrix) _ _ (at .before .start-refusal .ensures) (at .if1 .left) (c .fresh2 .ensures))
 
 pub start-spec : {M : Type 1} → statement M
 start-spec =

@@ -12,7 +12,7 @@ use Rattle.program.proofs.print_from.Tie as tie
 -- the bytes that were written lie within the buffer
 within : (c : tie.After-known-told) → c .before .answer .given .0 .0 ≤ length (c .before .before .before .before .run-file .last .1 .0)
 within c =
-    let (answer, slice) = c .before .before .before .before .run-file .ensures in
+    let (answer, (slice, said)) = c .before .before .before .before .run-file .ensures in
     written-within _ _ _ _ _ (c .before .answer .given .1) answer slice
 
 slice-aggregate-read-full : tie.Need-slice-aggregate-read-full

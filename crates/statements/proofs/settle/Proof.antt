@@ -80,8 +80,8 @@ drain-events-requires c κs =
 books-all-at-requires : tie.Need-books-all-at-requires
 books-all-at-requires c κs =
     let at = c .before .before .before .before in
-    let few = few-sites (setup (at .before .before .before .before .before .before .before .before .before)) (left at) (at .drain-events .ensures .1 .1 .1) (sound at) in
-    (few, may-post-at (setup (at .before .before .before .before .before .before .before .before .before)) (left at) (at .drain-events .ensures .1 .1 .1 .masks-long) (sound at) few)
+    let few = few-sites (setup (at .before .before .before .before .before .before .before .before .before)) (left at) (at .drain-events .ensures .1 .1 .1 .0) (sound at) in
+    (few, may-post-at (setup (at .before .before .before .before .before .before .before .before .before)) (left at) (at .drain-events .ensures .1 .1 .1 .0 .masks-long) (sound at) few)
 
 refusal-of-requires : tie.Need-refusal-of-requires
 refusal-of-requires c κs = search needs

@@ -20,7 +20,7 @@ returns c = search needs
 
 returns-2 : tie.Need-returns-2
 unfolding showingAll shown
-returns-2 c = rw (sym (c .before .is-sound .ensures) ∙ c .if1 .left) (refl, refl)
+returns-2 c = rw (sym (c .before .is-sound .ensures) ∙ c .if1 .left) (refl, (refl, refl))
 
 pub books-all-spec : {M : Type 1} → statement M
 books-all-spec = tie.close (tie.spec is-sound-requires books-all-sound-requires same-length returns returns-2)

@@ -1,11 +1,13 @@
 -- `books_all_at` meets its contract.
 -- Assumes nothing.
 use Prim.Native.Nat.{_<_}
+use mathlib.Core.Path.{ap}
 use mathlib.Core.List.{[]}
 use native.Mathlib.Omega.{arith}
 use Rattle.site.specs.Sites.{sites}
 use Rattle.books.proofs.Sheets.{blank-opening}
 use Rattle.arrays.specs.Arrays.{arrays}
+use Rattle.machine.specs.Calls.{answerOf}
 use Rattle.shown.proofs.Showing.{no-room-at, all-shown-at, post-at}
 use borrow.Author.Needs.{needs}
 use Rattle.shown.proofs.figures.books_all_at.Statement.{statement}
@@ -22,7 +24,8 @@ returns c =
     let g = c .before .before .args in
     λ sets masks good carried sound.
     let a = arrays sets (g .counts .now) (g .bytes .now) (g .amounts .now) masks good carried in
-    no-room-at (g .setup) a sound (g .out .now) (c .if1 .taken)
+    let books = no-room-at (g .setup) a sound (g .out .now) (c .if1 .taken) in
+    (books .0, books .1, ap answerOf (books .0))
 
 table-of-requires : tie.Need-table-of-requires
 table-of-requires c κs = search needs
@@ -56,8 +59,9 @@ returns-2 c =
     let g = c .before .before .before .before .before .before .before .before .args in
     λ sets masks good carried sound.
     let a = arrays sets (g .counts .now) (g .bytes .now) (g .amounts .now) masks good carried in
-    all-shown-at (g .setup) a sound (c .before .before .before .before .before .table-of .result) (c .before .before .before .before .records-of .result) (c .before .before .before .before .before .table-of .ensures sets masks good carried)
-    (c .before .before .before .before .records-of .ensures sets (g .amounts .now) masks good carried) (g .out .now) (c .before .before .before .before .before .before .if1 .left) _ (c .before .before .before .blank .ensures) _ (c .before .books-all .ensures)
+    let books = all-shown-at (g .setup) a sound (c .before .before .before .before .before .table-of .result) (c .before .before .before .before .records-of .result) (c .before .before .before .before .before .table-of .ensures sets masks good carried)
+    (c .before .before .before .before .records-of .ensures sets (g .amounts .now) masks good carried) (g .out .now) (c .before .before .before .before .before .before .if1 .left) _ (c .before .before .before .blank .ensures) _ (c .before .books-all .ensures) in
+    (books .0, books .1, ap answerOf (books .0))
 
 pub books-all-at-spec : {M : Type 1} → statement M
 books-all-at-spec =

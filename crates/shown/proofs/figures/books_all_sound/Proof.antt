@@ -4,7 +4,7 @@ use borrow.Author.Needs.{needs}
 use Rattle.books.proofs.Sheets.{blank-opening}
 use Rattle.machine.proofs.Typed.{is-board}
 use Rattle.machine.proofs.Facts.{few}
-use Rattle.shown.proofs.Showing.{sites-may-post, no-room-all, all-shown}
+use Rattle.shown.proofs.Showing.{with-answer, sites-may-post, no-room-all, all-shown}
 use Rattle.shown.proofs.figures.books_all_sound.Statement.{statement}
 use Rattle.shown.proofs.figures.books_all_sound.Tie as tie
 
@@ -17,7 +17,7 @@ mul-if1 c = search needs
 returns : tie.Need-returns
 returns c =
     let start = c .before .before .before in
-    no-room-all (start .args .board) (start .pre) (start .args .out .now) (c .if1 .taken)
+    with-answer (no-room-all (start .args .board) (start .pre) (start .args .out .now) (c .if1 .taken))
 
 records-requires : tie.Need-records-requires
 records-requires c κs = search needs
@@ -47,8 +47,9 @@ returns-2 c =
     let copied = opened .before in
     let at = copied .before .before in
     let start = at .before .before .before in
-    all-shown (start .args .board) (start .pre) (start .args .out .now) (at .if1 .left) _ (opened .blank .ensures) (copied .records .result) (copied .records .ensures) _
-    (c .before .books-all .ensures)
+    with-answer
+    (all-shown (start .args .board) (start .pre) (start .args .out .now) (at .if1 .left) _ (opened .blank .ensures) (copied .records .result) (copied .records .ensures) _
+    (c .before .books-all .ensures))
 
 pub books-all-sound-spec : {M : Type 1} → statement M
 books-all-sound-spec =

@@ -11,7 +11,7 @@ use Rattle.books.proofs.Sheets.{blank-opening}
 use Rattle.machine.specs.declared.Board.{Board}
 use Rattle.machine.proofs.Typed.{is-board}
 use Rattle.machine.proofs.Facts.{few, site-there}
-use Rattle.shown.proofs.Showing.{site-may-post, no-site, no-room, site-shown}
+use Rattle.shown.proofs.Showing.{with-answer, site-may-post, no-site, no-room, site-shown}
 use Rattle.shown.proofs.figures.books_sound.Statement.{statement}
 use Rattle.shown.proofs.figures.books_sound.Tie as tie
 
@@ -38,12 +38,12 @@ site-refusal-requires c κs = search needs
 returns : tie.Need-returns
 returns c =
     let from = c .before .before .before in
-    no-site (from .args .t1) (from .pre) (from .args .site) (from .args .out .now) _ (c .before .site-refusal .ensures) (c .if1 .taken)
+    with-answer (no-site (from .args .t1) (from .pre) (from .args .site) (from .args .out .now) _ (c .before .site-refusal .ensures) (c .if1 .taken))
 
 returns-2 : tie.Need-returns-2
 returns-2 c =
     let from = start (c .before) in
-    no-room (from .args .t1) (from .pre) (from .args .site) (from .args .out .now) (there (c .before)) (c .if2 .taken)
+    with-answer (no-room (from .args .t1) (from .pre) (from .args .site) (from .args .out .now) (there (c .before)) (c .if2 .taken))
 
 mul-own : tie.Need-mul-own
 mul-own c = omega (arith, below (c .before))
@@ -69,8 +69,9 @@ returns-3 c =
     let opened = c .before .before .before in
     let at = opened .before .before .before .before in
     let from = start (at .before) in
-    site-shown (from .args .t1) (from .pre) (from .args .site) (from .args .out .now) (there (at .before)) (at .if2 .left) _ (opened .blank .ensures) _
-    (c .before .books .ensures)
+    with-answer
+    (site-shown (from .args .t1) (from .pre) (from .args .site) (from .args .out .now) (there (at .before)) (at .if2 .left) _ (opened .blank .ensures) _
+    (c .before .books .ensures))
 
 pub books-sound-spec : {M : Type 1} → statement M
 books-sound-spec =
