@@ -1,31 +1,27 @@
 -- Each way out of the exported drain gives what its definition says, from the results of the code's calls.
--- Rests on the specs, on statements for a run and a drain. Assumes nothing.
+-- Rests on by_value for a drain and its books, on statements for a run and a drain in place. Assumes nothing.
 use Prim.Native.Nat.{ℕ}
-use mathlib.Core.Path.{_≡_, refl, sym, ap, _∙_}
+use mathlib.Core.Path.{_≡_, refl, _∙_}
 use mathlib.Core.Logic.{_≢_}
-use mathlib.Core.Bool.{true, false}
+use mathlib.Core.Bool.{true}
 use mathlib.Core.List.{List}
 use lib.IntN.{ℤ}
-use borrow.Author.Tests.{eq-eqb, ne-eqb}
 use Rattle.site.specs.declared.Setup.{Setup}
 use Rattle.steps.specs.declared.Call.{Call}
 use Rattle.steps.specs.Causes.{firstCause}
-use Rattle.machine.specs.Boards.{freshBoard}
-use Rattle.machine.specs.ByMask.{startCauses}
+use Rattle.machine.specs.Boards.{freshBoard, blankBoard}
+use Rattle.machine.specs.ByMask.{startCauses, refusing, taken}
 use Rattle.machine.specs.Calls.{refusalOf}
 use Rattle.machine.specs.Runs.{running}
 use Rattle.machine.specs.Figures.{showingAll}
-use Rattle.drain.specs.declared.Drained.{Drained}
 use Rattle.drain.specs.Drain.{drained}
 use Rattle.decoder.specs.RunFile.{setupOf, wellFormed, callsOf}
 use Rattle.runfile.specs.Program.{StaysSound}
 use Rattle.statements.specs.Statement.{settledRun}
 use Rattle.statements.proofs.Stated.{refused, started}
-use Rattle.exports.specs.Drains.{noCount, DrainedBooks, notDone, drainedRun, drainedFrom, drainedFile}
-
--- an answer and a slice are those of a definition
-abbrev pub Gives : ℕ → List ℤ → DrainedBooks → Type 0
-Gives count slice d = (count ≡ d .count) × (slice ≡ d .slice)
+use Rattle.by_value.specs.Drains.{noCount, drainedRun, drainedFile}
+use Rattle.by_value.proofs.DrainLaws as by-value
+use Rattle.by_value.proofs.DrainLaws.{Gives, start-none, start-drains}
 
 -- a run from the board of a start, and a drain, whose boards are sound
 module _ (setup : Setup) (calls : List Call) (limit : ℕ) (stays : StaysSound (freshBoard setup)) where
@@ -35,33 +31,18 @@ module _ (setup : Setup) (calls : List Call) (limit : ℕ) (stays : StaysSound (
 
   module _ (slice left : List ℤ) (count why : ℕ) (ec : count ≡ settledRun setup calls limit .count)
       (ew : why ≡ refusalOf (showingAll (settledRun setup calls limit .board) slice .answer)) (es : left ≡ showingAll (settledRun setup calls limit .board) slice .slice) where
-    number : refusalOf (showingAll (drained (running (freshBoard setup) calls) limit .board) slice .answer) ≡ why
-    number = ap (λ (x : Drained). refusalOf (showingAll (x .board) slice .answer)) (sym is) ∙ sym ew
-
-    filled : left ≡ showingAll (drained (running (freshBoard setup) calls) limit .board) slice .slice
-    filled = es ∙ ap (λ (x : Drained). showingAll (x .board) slice .slice) is
-
     pub no-room : why ≢ 0 → Gives noCount left (drainedRun (freshBoard setup) calls limit slice)
-    unfolding drainedRun
-    no-room n = (rw (number, ne-eqb why 0 n), filled)
+    no-room n = by-value.no-room (freshBoard setup) calls limit slice left (settledRun setup calls limit) why is ew es n
 
     pub all-done : why ≡ 0 → Gives count left (drainedRun (freshBoard setup) calls limit slice)
-    unfolding drainedRun
-    all-done z = (ec ∙ ap (λ (x : Drained). x .count) is ∙ rw (number, eq-eqb why 0 z), filled)
+    all-done z =
+        let (e, f) = by-value.all-done (freshBoard setup) calls limit slice left (settledRun setup calls limit) why is ew es z in
+        (ec ∙ e, f)
 
-module _ (input : List ℕ) (limit : ℕ) (slice : List ℤ) where
-  pub malformed-none : wellFormed input ≡ false → Gives noCount slice (drainedFile input limit slice)
-  unfolding drainedFile
-  malformed-none f = (rw f, rw f)
+module _ (input : List ℕ) (limit : ℕ) (slice : List ℤ) (setup : Setup) (why : ℕ) (well : wellFormed input ≡ true) (es : setup ≡ setupOf input)
+    (tested : why ≡ firstCause (startCauses (setup .n) (setup .f) (setup .matrix))) where
+  pub refused-none : why ≢ 0 → Gives noCount slice (drainedFile input limit slice)
+  refused-none n = start-none input limit slice (refusing blankBoard why) why well (refused input setup why well es tested n) refl n
 
-  module _ (setup : Setup) (why : ℕ) (well : wellFormed input ≡ true) (es : setup ≡ setupOf input)
-      (tested : why ≡ firstCause (startCauses (setup .n) (setup .f) (setup .matrix))) where
-    pub refused-none : why ≢ 0 → Gives noCount slice (drainedFile input limit slice)
-    unfolding drainedFile drainedFrom
-    refused-none n =
-        let e = refused input setup why well es tested n in
-        (rw (well, sym e, ne-eqb why 0 n), rw (well, sym e, ne-eqb why 0 n))
-
-    pub started-drains : why ≡ 0 → drainedRun (freshBoard setup) (callsOf input) limit slice ≡ drainedFile input limit slice
-    unfolding drainedFile drainedFrom
-    started-drains z = rw (well, sym (started input setup why well es tested z))
+  pub started-drains : why ≡ 0 → drainedRun (freshBoard setup) (callsOf input) limit slice ≡ drainedFile input limit slice
+  started-drains z = start-drains input limit slice (taken (freshBoard setup)) 0 well (started input setup why well es tested z) refl refl

@@ -14,7 +14,7 @@ use Rattle.machine.specs.ByMask.{startCauses, taken}
 use Rattle.decoder.specs.RunFile.{setupOf, wellFormed, eventCount, callsOf}
 use Rattle.runfile.specs.Program.{refusals}
 use Rattle.statements.proofs.Stated.{refused, started}
-use Rattle.exports.specs.Drains.{noCount}
+use Rattle.by_value.specs.Drains.{noCount}
 use Rattle.exports.specs.Numbers.{Numbered, numberedFrom, numberedFile}
 
 -- an answer and a slice are those of a definition

@@ -1,5 +1,5 @@
 -- A run file run, and the refusal number of each answer: what the exported function answers, and the slice.
--- Rests on decoder, runfile and machine.
+-- Rests on decoder, runfile, by_value and machine.
 use Prim.Native.Nat.{ℕ}
 use mathlib.Core.Bool.{cond}
 use mathlib.Core.List.{List, _++_}
@@ -9,7 +9,7 @@ use Rattle.machine.specs.declared.Outcome.{Outcome}
 use Rattle.machine.specs.Calls.{refusalOf, starting}
 use Rattle.decoder.specs.RunFile.{setupOf, wellFormed, eventCount, callsOf}
 use Rattle.runfile.specs.Program.{refusals}
-use Rattle.exports.specs.Drains.{noCount}
+use Rattle.by_value.specs.Drains.{noCount}
 
 pub record Numbered : Type 0 where
   pub count : ℕ

@@ -1,5 +1,5 @@
 // What other languages call: the programs, over an input and an output slice.
-// Rests on runfile and statements, on decoder, printer and opening. Each function takes any bytes: a slice without room for the output stays as it was, and the answer says so.
+// Rests on runfile, statements and by_value, on decoder, printer and opening. Each function takes any bytes: a slice without room for the output stays as it was, and the answer says so.
 ghost use Prim.Native.Nat.{_≤_};
 ghost use mathlib.Core.Path.{_≡_};
 ghost use mathlib.Core.Bool.{false};
@@ -10,11 +10,13 @@ ghost use Rattle.printer.specs.Writing.{slicePrinted, answerPrinted};
 ghost use Rattle.runfile.specs.Program.{StaysSound, printed};
 ghost use Rattle.exports.specs.Answers.{countOf};
 ghost use Rattle.machine.specs.ByMask.{taken};
-ghost use Rattle.exports.specs.Drains.{drainedRun, drainedFile};
+ghost use Rattle.by_value.specs.Drains.{drainedRun, drainedFile};
+ghost use Rattle.by_value.specs.Changed.{callChanged};
 ghost use Rattle.exports.specs.Numbers.{numberedFrom, numberedFile};
 use arrays::BYTES;
 use arrays::COUNTS;
 use arrays::SETS;
+use by_value::NO_COUNT;
 use decoder::file::event_count;
 use decoder::file::setup_of;
 use decoder::file::well_formed;
@@ -26,9 +28,6 @@ use printer::Printed;
 use sets::POSTINGS;
 use site::Setup;
 use statements::settle;
-
-// The answer in place of a count of bytes: no slice has so many.
-pub const NO_COUNT: u64 = 18_446_744_073_709_551_615;
 
 // What `board` prints for an input, and how many bytes it has; NO_COUNT if the slice is shorter than that.
 #[no_mangle]
@@ -76,6 +75,15 @@ pub extern "C" fn run_drain(input: &[u8], limit: u64, out: &mut [i64]) -> u64
         return drain_from(input, setup, limit, out);
     }
     NO_COUNT
+}
+
+// The same through the calls by value alone: start, the call of each event, drain, and the books of all sites.
+#[no_mangle]
+pub extern "C" fn run_by_value(input: &[u8], limit: u64, out: &mut [i64]) -> u64
+    ensures { λ r. ⌜ r ≡ drainedFile (now (input .entry)) limit (now (out .entry)) .count ⌝ }
+    ensures { λ _. ⌜ now (out .exit) ≡ drainedFile (now (input .entry)) limit (now (out .entry)) .slice ⌝ }
+{
+    by_value::run::run_by_value(input, limit, out)
 }
 
 // The events of a file from the board of its start, the number of each answer at its place; NO_COUNT if the slice has no room for them.
@@ -128,4 +136,24 @@ pub extern "C" fn run_events(input: &[u8], numbers: &mut [u8]) -> u64
         return answer_from(input, setup, numbers);
     }
     NO_COUNT
+}
+
+// The board that a run file leaves, with the number at a place of its row replaced, takes the call that ten bytes ask for: the answer is the number
+// of the refusal, 0 if it was accepted, and `board` has the board handed back and two values. NO_COUNT, and both slices as they were, if the file or its
+// start is refused, the bytes ask for nothing, or `board` is shorter than that.
+#[no_mangle]
+pub extern "C" fn call_changed(
+    input: &[u8],
+    place: u64,
+    value: u64,
+    event: &[u8],
+    limit: u64,
+    figures: &mut [i64],
+    board: &mut [u64],
+) -> u64
+    ensures { λ r. ⌜ r ≡ callChanged (now (input .entry)) place value (now (event .entry)) limit (now (figures .entry)) (now (board .entry)) .number ⌝ }
+    ensures { λ _. ⌜ now (figures .exit) ≡ callChanged (now (input .entry)) place value (now (event .entry)) limit (now (figures .entry)) (now (board .entry)) .figures ⌝ }
+    ensures { λ _. ⌜ now (board .exit) ≡ callChanged (now (input .entry)) place value (now (event .entry)) limit (now (figures .entry)) (now (board .entry)) .board ⌝ }
+{
+    by_value::changed::call_changed(input, place, value, event, limit, figures, board)
 }

@@ -37,7 +37,7 @@ use Rattle.decoder.specs.RunFile.{callAt, callsOf, eventCount}
 use Rattle.runfile.specs.Program.{StaysSound, endedOn, refusals}
 use Rattle.runfile.specs.Parts.{callsFrom}
 
-run-last : (b : Board) (l : List Call) (c : Call) → running b (l ++ (c ∷ [])) ≡ taking (running b l) c .board
+pub run-last : (b : Board) (l : List Call) (c : Call) → running b (l ++ (c ∷ [])) ≡ taking (running b l) c .board
 unfolding running
 run-last b [] c = refl
 run-last b (x ∷ l) c = run-last (taking b x .board) l c

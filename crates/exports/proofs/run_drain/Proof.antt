@@ -3,7 +3,8 @@
 use mathlib.Core.Path.{sym, ap, _∙_}
 use Rattle.runfile.proofs.Programs.{few-events, file-stays}
 use Rattle.statements.proofs.Stated.{started-good}
-use Rattle.exports.proofs.DrainLaws.{malformed-none, refused-none, started-drains}
+use Rattle.by_value.proofs.DrainLaws.{malformed-none}
+use Rattle.exports.proofs.DrainLaws.{refused-none, started-drains}
 use borrow.Author.Needs.{needs}
 use Rattle.exports.proofs.run_drain.Statement.{statement}
 use Rattle.exports.proofs.run_drain.Tie as tie

@@ -1,4 +1,4 @@
--- A run file run, the board drained with a limit, and the books of all sites: what the exported function answers, and the slice.
+-- A run file run, the board drained with a limit, and the books of all sites: what the exported functions answer, and the slice.
 -- Rests on decoder, drain and machine.
 use Prim.Native.Nat.{ℕ}
 use mathlib.Core.Bool.{cond}

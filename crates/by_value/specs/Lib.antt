@@ -1,0 +1,4 @@
+-- Drains: a run file run and drained. Changed: a changed board takes a call.
+-- Rests on decoder, drain, image and machine.
+pub mod Drains
+pub mod Changed
