@@ -5,13 +5,30 @@ ghost use mathlib.Core.Path.{_≡_};
 ghost use Rattle.sets.specs.Masks.{hasBit};
 ghost use Rattle.sets.specs.Sets.{capacity};
 ghost use Rattle.site.specs.Sites.{sites};
-ghost use Rattle.flight.specs.Flights.{takingFrom, sendingTo, goodIn, saying, setIn, carrying};
+ghost use Rattle.flight.specs.Flights.{messageIn, takingFrom, sendingTo, goodIn, saying, setIn, carrying};
+use flight::FORMS;
 use flight::LOADS;
 use flight::MASKS;
 use flight::PAIRS;
+use sets::POSTINGS;
 use sets::Set;
 use sets::WORDS;
 use site::SITES;
+
+// Whether a message is on its way between two sites; of an unknown form or posting none is.
+pub fn is_sent(masks: &[u8; MASKS], form: usize, m: usize, from: usize, to: usize) -> bool
+    requires { ⌜ (from < sites) × (to < sites) ⌝ }
+    ensures { λ r. ⌜ r ≡ messageIn (now (masks .entry)) form m from to ⌝ }
+{
+    if FORMS <= form {
+        return false;
+    }
+    if POSTINGS <= m {
+        return false;
+    }
+    let w = masks[form * PAIRS + (m * SITES + from)];
+    (w >> to) % 2 == 1
+}
 
 // A message leaves.
 pub fn take_out(masks: &mut [u8; MASKS], form: usize, m: usize, from: usize, to: usize)

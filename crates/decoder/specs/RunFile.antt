@@ -67,9 +67,12 @@ knownCode code = leb 1 code && leb code 5
 abbrev pub usedBy : ℕ → ℕ
 usedBy code = cond (eqb code 1) 8 (cond (eqb code 2) 4 1)
 
--- place i of an event has the code or a used byte, or a 0
+-- place i of an event has a 0; it has the code or a used byte, or a 0
+abbrev pub zeroAt : List ℕ → ℕ → Bool
+zeroAt event i = eqb (byteAt event i) 0
+
 abbrev pub usedOrZero : List ℕ → ℕ → Bool
-usedOrZero event i = leb i (usedBy (codeOf event)) || eqb (byteAt event i) 0
+usedOrZero event i = leb i (usedBy (codeOf event)) || zeroAt event i
 
 unfoldable pub unusedOk : List ℕ → Bool
 unusedOk event = allBelow (usedOrZero event) 9

@@ -1,7 +1,10 @@
 // A run file's header and events, read from bytes: whether it is well formed, and the call of each event.
 // Rests on machine for calls and site for the setup. Past the end of the bytes zeros are read.
+ghost use Prim.Native.Nat.{_≤_};
 ghost use mathlib.Core.Path.{_≡_};
-ghost use Rattle.decoder.specs.RunFile.{byteAt, pair, quad, hasMark, headerOk, setupOf, eventCount, lengthOk, knownCode, usedBy, usedOrZero, unusedOk, cutOk, eventOk, eventsOk, wellFormed, cutOf, offerOf, receiveOf, callOf, callAt};
+ghost use mathlib.Core.Bool.{_&&_};
+ghost use lib.ListN.{length};
+ghost use Rattle.decoder.specs.RunFile.{byteAt, pair, quad, hasMark, headerOk, setupOf, eventCount, lengthOk, knownCode, zeroAt, unusedOk, cutOk, eventOk, eventsOk, wellFormed, cutOf, offerOf, receiveOf, callOf, callAt};
 use site::Setup;
 use steps::Call;
 use steps::Cut;
@@ -121,40 +124,53 @@ fn known_code(code: u8) -> bool
     code <= CRASH
 }
 
-// How many of an event's eight bytes its code uses.
-fn used_by(code: u8) -> usize
-    ensures { λ r. ⌜ r ≡ usedBy code ⌝ }
+// Whether places 2 to 4 of an event are 0.
+fn middle_blank(event: &[u8]) -> bool
+    requires { ⌜ 10 ≤ length (now event) ⌝ }
+    ensures { λ r. ⌜ r ≡ (zeroAt (now (event .entry)) 2 && zeroAt (now (event .entry)) 3 && zeroAt (now (event .entry)) 4) ⌝ }
 {
-    if code == OFFER {
-        return 8;
+    if event[2] != 0 {
+        return false;
     }
-    if code == RECEIVE {
-        return 4;
+    if event[3] != 0 {
+        return false;
     }
-    1
+    event[4] == 0
 }
 
-// Whether place i of an event is used, or its byte is 0.
-fn used_or_zero(event: &[u8], i: usize) -> bool
-    ensures { λ r. ⌜ r ≡ usedOrZero (now (event .entry)) i ⌝ }
+// Whether places 5 to 8 are.
+fn end_blank(event: &[u8]) -> bool
+    requires { ⌜ 10 ≤ length (now event) ⌝ }
+    ensures { λ r. ⌜ r ≡ (zeroAt (now (event .entry)) 5 && zeroAt (now (event .entry)) 6 && zeroAt (now (event .entry)) 7 && zeroAt (now (event .entry)) 8) ⌝ }
 {
-    let code = byte_at(event, 0);
-    if i <= used_by(code) {
-        return true;
+    if event[5] != 0 {
+        return false;
     }
-    byte_at(event, i) == 0
+    if event[6] != 0 {
+        return false;
+    }
+    if event[7] != 0 {
+        return false;
+    }
+    event[8] == 0
 }
 
-// Whether the unused bytes are 0.
+// Whether the unused bytes are 0: an offer uses all eight, a receive four, the others one.
 fn unused_ok(event: &[u8]) -> bool
+    requires { ⌜ 10 ≤ length (now event) ⌝ }
     ensures { λ r. ⌜ r ≡ unusedOk (now (event .entry)) ⌝ }
 {
-    for i in 0..9 {
-        if used_or_zero(event, i) == false {
-            return false;
-        }
+    let code = event[0];
+    if code == OFFER {
+        return true;
     }
-    true
+    if code == RECEIVE {
+        return end_blank(event);
+    }
+    if middle_blank(event) {
+        return end_blank(event);
+    }
+    false
 }
 
 // Whether the cut byte is one that the code may have.
@@ -172,11 +188,12 @@ fn cut_ok(code: u8, cut: u8) -> bool
 
 // Whether an event has a known code, a cut byte that may be, and zeros in its unused bytes.
 pub fn event_ok(event: &[u8]) -> bool
+    requires { ⌜ 10 ≤ length (now event) ⌝ }
     ensures { λ r. ⌜ r ≡ eventOk (now (event .entry)) ⌝ }
 {
-    let code = byte_at(event, 0);
+    let code = event[0];
     if known_code(code) {
-        let cut = byte_at(event, 9);
+        let cut = event[9];
         if cut_ok(code, cut) {
             return unused_ok(event);
         }

@@ -13,13 +13,21 @@ use Rattle.posting.specs.declared.Posting.{Posting}
 use Rattle.posting.specs.Kinds.{fieldsOk, kinds, accounts}
 use Rattle.posting.specs.KindLaws.{fields, row-kind}
 use Rattle.site.specs.Sites.{sites}
-use Rattle.steps.specs.Causes.{firstCause, siteCauses, offerCauses}
+use Rattle.steps.specs.Causes.{firstCause, siteCauses, messageCauses, offerCauses}
 
 pub site-below : (n down p why : ℕ) → n ≤ sites → why ≡ firstCause (siteCauses n down p) → why ≡ 0 → p < sites
 unfolding firstCause
 site-below n down p why few e z = elim (test (leb n p)) [
   | inl t ↦ let k : why ≡ 7 = rw t at e in absurd (omega (arith, k, z))
   | inr f ↦ omega (arith, few, leb-false n p f)
+]
+
+-- and so have the two of a message
+pub message-below : (n down from to why : ℕ) → n ≤ sites → why ≡ firstCause (messageCauses n down from to) → why ≡ 0 → (from < sites) × (to < sites)
+unfolding firstCause
+message-below n down from to why few e z = elim (test (leb n from)) [
+  | inl t ↦ let k : why ≡ 7 = rw t at e in absurd (omega (arith, k, z))
+  | inr f ↦ (omega (arith, few, leb-false n from f), site-below n down to why few (rw f at e) z)
 ]
 
 module _ (posting : Posting) (count why : ℕ) (e : why ≡ firstCause (offerCauses posting count)) (z : why ≡ 0) where

@@ -1,5 +1,5 @@
 // A message received: refused, or handed on to the step of its form.
-// Rests on arrays, on flight for whether it is in flight, on steps for refusals and cuts.
+// Rests on arrays, seconds and thirds, on steps for refusals.
 ghost use Prim.Native.Nat.{ℕ, _≤_};
 ghost use mathlib.Core.Path.{_≡_};
 ghost use mathlib.Core.List.{List};
@@ -10,10 +10,10 @@ use arrays::BYTES;
 use arrays::COUNTS;
 use arrays::DOWN;
 use arrays::SETS;
+use arrays::messages::is_sent;
 use flight::LOADS;
 use flight::MASKS;
 use flight::PAIRS;
-use flight::in_flight;
 use seconds::first::on_first;
 use seconds::second::on_second;
 use site::Setup;
@@ -37,6 +37,7 @@ pub fn receive(
     to: usize,
     cut: Cut,
 ) -> u8
+    requires { ⌜ setup .n ≤ sites ⌝ }
     ensures { λ r. ⌜ ((amounts : List ℕ) → flat r (arrays (now (words .exit)) (now (counts .exit)) (now (bytes .exit)) amounts (now (masks .exit)) (now (good .exit)) (now (carried .exit))) ≡ flatReceive setup (arrays (now (words .entry)) (now (counts .entry)) (now (bytes .entry)) amounts (now (masks .entry)) (now (good .entry)) (now (carried .entry))) form m from to cut) ⌝ }
 {
     let down = bytes[DOWN];
@@ -44,7 +45,7 @@ pub fn receive(
     if why != 0 {
         return why;
     }
-    if in_flight(masks, form, m, from, to) {
+    if is_sent(masks, form, m, from, to) {
         if form == 0 {
             return on_first(words, bytes, masks, good, setup, m, from, to, cut);
         }

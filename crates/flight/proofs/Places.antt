@@ -60,14 +60,6 @@ module _ (masks : List ℕ) (form m from to : ℕ) where
   unfolding messageIn
   posting-unknown h = rw (le-ltb m capacity h, and-false (ltb form forms))
 
-  pub sender-unknown : sites ≤ from → messageIn masks form m from to ≡ false
-  unfolding messageIn
-  sender-unknown h = rw (le-ltb from sites h, and-false (ltb m capacity), and-false (ltb form forms))
-
-  pub receiver-unknown : sites ≤ to → messageIn masks form m from to ≡ false
-  unfolding messageIn
-  receiver-unknown h = rw (le-ltb to sites h) (and-false (isCell form m from))
-
   pub bit-found : form < forms → m < capacity → from < sites → to < sites
       → messageIn masks form m from to ≡ hasBit (getD masks (form * pairs + (m * sites + from)) 0) to
   unfolding messageIn

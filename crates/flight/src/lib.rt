@@ -3,7 +3,7 @@
 // is not in flight.
 ghost use mathlib.Core.Path.{_≡_};
 ghost use lib.ListN.{take};
-ghost use Rattle.flight.specs.Flights.{cells, pairAt, cellAt, messageIn, setIn, nothingComes, emptyFlight};
+ghost use Rattle.flight.specs.Flights.{cells, pairAt, cellAt, setIn, nothingComes, emptyFlight};
 use sets::POSTINGS;
 use sets::Set;
 use sets::WORDS;
@@ -83,26 +83,6 @@ pub fn cell(form: usize, m: usize, from: usize) -> usize
 }
 
 // ---- what is in flight
-
-// Whether a message is in flight, for any numbers.
-pub fn in_flight(masks: &[u8; MASKS], form: usize, m: usize, from: usize, to: usize) -> bool
-    ensures { λ r. ⌜ r ≡ messageIn (now (masks .entry)) form m from to ⌝ }
-{
-    if FORMS <= form {
-        return false;
-    }
-    if POSTINGS <= m {
-        return false;
-    }
-    if SITES <= from {
-        return false;
-    }
-    if SITES <= to {
-        return false;
-    }
-    let w = masks[form * PAIRS + (m * SITES + from)];
-    (w >> to) % 2 == 1
-}
 
 // The set that the THIRD of m carries.
 pub fn carried_set(carried: &[u64; LOADS], m: usize, from: usize) -> Set

@@ -21,7 +21,7 @@ enum-known-found : tie.Need-enum-known-found Inv-loop2 μ-loop2 Inv-search μ-se
 enum-known-found c = search needs
 
 receive-requires : tie.Need-receive-requires Inv-loop2 μ-loop2 Inv-search μ-search Inv-loop μ-loop
-receive-requires c κs = search needs
+receive-requires c κs = few _ _ _ _ _ _ (c .before .before .before .before .before .before .before .before .before .before .before .before .before .before .loop .inv)
 
 floor-after-requires : tie.Need-floor-after-requires Inv-loop2 μ-loop2 Inv-search μ-search Inv-loop μ-loop
 floor-after-requires c κs = search needs

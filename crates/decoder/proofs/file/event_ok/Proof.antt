@@ -6,14 +6,14 @@ use Rattle.decoder.specs.RunFile.{eventOk}
 use Rattle.decoder.proofs.file.event_ok.Statement.{statement}
 use Rattle.decoder.proofs.file.event_ok.Tie as tie
 
-byte-at-requires : tie.Need-byte-at-requires
-byte-at-requires c κs = search needs
+shared-slice-read-code : tie.Need-shared-slice-read-code
+shared-slice-read-code c = search needs
 
 known-code-requires : tie.Need-known-code-requires
 known-code-requires c κs = search needs
 
-byte-at-requires-2 : tie.Need-byte-at-requires-2
-byte-at-requires-2 c κs = search needs
+shared-slice-read-cut : tie.Need-shared-slice-read-cut
+shared-slice-read-cut c = search needs
 
 cut-ok-requires : tie.Need-cut-ok-requires
 cut-ok-requires c κs = search needs
@@ -23,40 +23,23 @@ unused-ok-requires c κs = search needs
 
 returns : tie.Need-returns
 unfolding eventOk
-returns c =
-    rw (
-      ← c .before .before .before .before .before .before .byte-at .ensures,
-      ← c .before .before .before .byte-at2 .ensures,
-      sym (c .before .before .before .before .before .known-code .ensures) ∙ c .before .before .before .before .if1 .taken,
-      sym (c .before .before .cut-ok .ensures) ∙ c .before .if2 .taken,
-    )
-    (c .unused-ok .ensures)
+returns c = rw (sym (c .before .before .before .before .before .known-code .ensures) ∙ c .before .before .before .before .if1 .taken, sym (c .before .before .cut-ok .ensures) ∙ c .before .if2 .taken) (c .unused-ok .ensures)
 
 returns-2 : tie.Need-returns-2
 unfolding eventOk
-returns-2 c =
-    rw (
-      ← c .before .before .before .before .before .byte-at .ensures,
-      ← c .before .before .byte-at2 .ensures,
-      sym (c .before .before .before .before .known-code .ensures) ∙ c .before .before .before .if1 .taken,
-      sym (c .before .cut-ok .ensures) ∙ c .if2 .left,
-    )
+returns-2 c = rw (sym (c .before .before .before .before .known-code .ensures) ∙ c .before .before .before .if1 .taken, sym (c .before .cut-ok .ensures) ∙ c .if2 .left)
 
 returns-3 : tie.Need-returns-3
 unfolding eventOk
-returns-3 c =
-    rw (
-      ← c .before .before .byte-at .ensures,
-      sym (c .before .known-code .ensures) ∙ c .if1 .left,
-    )
+returns-3 c = rw (sym (c .before .known-code .ensures) ∙ c .if1 .left)
 
 pub event-ok-spec : {M : Type 1} → statement M
 event-ok-spec =
     tie.close
     (tie.spec
-    byte-at-requires
+    shared-slice-read-code
     known-code-requires
-    byte-at-requires-2
+    shared-slice-read-cut
     cut-ok-requires
     unused-ok-requires
     returns

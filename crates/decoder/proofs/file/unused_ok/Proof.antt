@@ -1,66 +1,44 @@
--- `unused_ok` meets its contract. The loop's invariant: the first i places pass.
+-- `unused_ok` meets its contract.
 -- Assumes nothing.
-use Prim.Native.Nat.{ℕ, _≤_, _<_, _-_}
-use mathlib.Core.Path.{_≡_, sym, _∙_}
-use mathlib.Core.Bool.{true}
-use borrow.Author.Count.{below-none, below-more}
-use borrow.Author.Tests.{not-true, not-false}
+use mathlib.Core.Path.{sym, _∙_}
 use borrow.Author.Needs.{needs}
-use native.Mathlib.Omega.{arith}
-use Rattle.sets.specs.BelowLaws.{all-from, all-fails}
-use Rattle.posting.proofs.Pairs.{is-false}
-use Rattle.decoder.specs.RunFile.{usedOrZero, unusedOk}
+use Rattle.decoder.proofs.Events.{all-used, four-used, one-used, one-wrong}
 use Rattle.decoder.proofs.file.unused_ok.Statement.{statement}
 use Rattle.decoder.proofs.file.unused_ok.Tie as tie
 
-abbrev Inv-loop : tie.InvT-loop
-Inv-loop event i₀ i = (i ≤ 9) × ((j : ℕ) → j < i → usedOrZero event j ≡ true)
+shared-slice-read-code : tie.Need-shared-slice-read-code
+shared-slice-read-code c = search needs
 
-abbrev μ-loop : tie.MeasureT-loop
-μ-loop event i₀ i = 9 - i
+returns : tie.Need-returns
+returns c = all-used _ (c .if1 .taken)
 
-loop-holds : tie.Need-loop-holds Inv-loop μ-loop
-loop-holds c = (search needs, below-none _)
+end-blank-requires : tie.Need-end-blank-requires
+end-blank-requires c κs = search needs
 
-used-or-zero-requires : tie.Need-used-or-zero-requires Inv-loop μ-loop
-used-or-zero-requires c κs = search needs
+returns-2 : tie.Need-returns-2
+returns-2 c = c .end-blank .ensures ∙ four-used _ (c .before .if2 .taken)
 
-returns : tie.Need-returns Inv-loop μ-loop
-unfolding unusedOk
-returns c =
-    let at = c .before .before .before .loop in
-    let event = c .before .before .before .before .before .args .event .now in
-    let so = c .before .used-or-zero .result in
-    sym (all-fails (usedOrZero event) 9 (at .i) (search needs) (sym (c .before .used-or-zero .ensures) ∙ not-true so (sym (is-false so) ∙ c .if1 .taken)))
+middle-blank-requires : tie.Need-middle-blank-requires
+middle-blank-requires c κs = search needs
 
-add-i : tie.Need-add-i Inv-loop μ-loop
-add-i c = search needs
+end-blank-requires-2 : tie.Need-end-blank-requires-2
+end-blank-requires-2 c κs = search needs
 
-loop-less : tie.Need-loop-less Inv-loop μ-loop
-loop-less c = search needs
+returns-3 : tie.Need-returns-3
+returns-3 c = c .end-blank2 .ensures ∙ one-used _ (c .before .before .before .before .if1 .left) (c .before .before .before .if2 .left) (sym (c .before .before .middle-blank .ensures) ∙ c .before .if3 .taken)
 
-loop-again : tie.Need-loop-again Inv-loop μ-loop
-loop-again c =
-    let so = c .before .used-or-zero .result in
-    (search needs, below-more _ _ (c .before .before .before .loop .inv .1) (sym (c .before .used-or-zero .ensures) ∙ not-false so (sym (is-false so) ∙ c .if1 .left)))
-
-returns-2 : tie.Need-returns-2 Inv-loop μ-loop
-unfolding unusedOk
-returns-2 c =
-    let at = c .before .loop in
-    let event = c .before .before .before .args .event .now in
-    sym (all-from (usedOrZero event) 9 (λ j h. at .inv .1 j (omega arith)))
+returns-4 : tie.Need-returns-4
+returns-4 c = one-wrong _ (c .before .before .before .if1 .left) (c .before .before .if2 .left) (sym (c .before .middle-blank .ensures) ∙ c .if3 .left)
 
 pub unused-ok-spec : {M : Type 1} → statement M
 unused-ok-spec =
     tie.close
     (tie.spec
-    Inv-loop
-    μ-loop
-    loop-holds
-    used-or-zero-requires
+    shared-slice-read-code
     returns
-    add-i
-    loop-less
-    loop-again
-    returns-2)
+    end-blank-requires
+    returns-2
+    middle-blank-requires
+    end-blank-requires-2
+    returns-3
+    returns-4)

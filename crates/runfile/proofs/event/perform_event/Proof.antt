@@ -42,7 +42,7 @@ cut-of-requires : tie.Need-cut-of-requires
 cut-of-requires c κs = search needs
 
 receive-requires : tie.Need-receive-requires
-receive-requires c κs = search needs
+receive-requires c κs = c .before .before .before .before .before .before .before .before .before .before .before .before .before .before .before .pre .0
 
 returns : tie.Need-returns
 returns c =
