@@ -1,14 +1,16 @@
 // Holds: the twin agrees with the model on random run files of every sort: text, drains, books, and refusal numbers.
 // Rests on: the twin; the files and the comparison of tests/programs; the model.
 
-use model::{decode, Board, MAX_EVENTS};
 use programs::compare::compare;
 use programs::files::{numbers, Sort, SORTS};
-use programs::programs::Programs;
+use programs::programs::{Programs, MODEL};
 
 const TWIN: Programs = Programs {
     run_file: plain::run_file,
     run_drain: plain::run_drain,
+    run_events: plain::run_events,
+    // The twin has no calls by value.
+    ..MODEL
 };
 
 /// Each seed makes more than 5,000 files at random, and some 1,500 that are the same for every seed.
@@ -17,36 +19,6 @@ const SEEDS: [u64; 5] = [1, 2, 3, 4, 5];
 /// What stands in a lent slice beforehand.
 const BYTE: u8 = 0xA5;
 
-/// The refusal number of each event, as the model has it; none if the file is refused.
-fn wanted(input: &[u8]) -> Option<Vec<u8>> {
-    let run = decode(input).ok()?;
-    let (mut board, started) = Board::start(run.n.into(), run.f.into(), run.matrix);
-    started.ok()?;
-    let answers = run.calls.iter().map(|call| board.apply_on_sound(call));
-    Some(
-        answers
-            .map(|answer| answer.map_or_else(|refusal| refusal.number(), |_| 0))
-            .collect(),
-    )
-}
-
-/// The numbers of events, in a slice with room to spare and in one that is too short.
-fn same_numbers(input: &[u8]) -> bool {
-    let mut out = [BYTE; MAX_EVENTS + 3];
-    let answer = plain::run_events(input, &mut out);
-    let Some(numbers) = wanted(input) else {
-        return answer == plain::NONE && out.iter().all(|&byte| byte == BYTE);
-    };
-    let (written, rest) = out.split_at(numbers.len());
-    let short = &mut vec![BYTE; numbers.len().saturating_sub(1)];
-    let cramped = numbers.is_empty() || plain::run_events(input, short) == plain::NONE;
-    answer == numbers.len() as u64
-        && written == numbers
-        && rest.iter().all(|&byte| byte == BYTE)
-        && cramped
-        && short.iter().all(|&byte| byte == BYTE)
-}
-
 /// Compares on all files of one sort and seed; the counts of files and of their events, drained ones included.
 fn agree(sort: &Sort, seed: u64) -> (u64, u64) {
     let mut events = 0;
@@ -54,7 +26,6 @@ fn agree(sort: &Sort, seed: u64) -> (u64, u64) {
         let named = format!("{}, file {k} of seed {seed}", sort.name);
         let mut rng = numbers(seed, sort, k);
         let file = sort.file(&mut rng, k);
-        assert!(same_numbers(&file), "{named}: run_events differs");
         let done = compare(&TWIN, &file, &mut rng);
         let done = done.unwrap_or_else(|cause| panic!("{named}: {cause}"));
         events += done.events + done.drained;

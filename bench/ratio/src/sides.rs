@@ -38,6 +38,8 @@ pub static SIDES: [Side; 3] = [
             run_file: plain::run_file,
             run_drain: plain::run_drain,
             run_events: plain::run_events,
+            // The twin has no calls by value.
+            ..MODEL
         },
         prints: false,
     },

@@ -91,6 +91,9 @@ impl Flight {
             for posting in 0..POSTINGS {
                 for from in 0..SITES {
                     let here = self.to[form][posting][from] & to;
+                    if here == 0 {
+                        continue;
+                    }
                     for to in (0..8).filter(|&s| has_site(here, s)) {
                         list.push(Message {
                             form: form as u8,

@@ -1,5 +1,5 @@
 // Holds: the parts of the model of the posting board, and the readings taken where its paper is open.
-// Rests on: document 01 (the law) and Figure 1 of document 003 (the two rounds); nothing else.
+// Rests on: document 01 (the law), Figure 1 of document 003 (the two rounds), docs/FORMATS.md (a board as a row); nothing else.
 //
 // Readings, each with its reason. R: refusals. S: steps. B: what a board is. P: program.
 //
@@ -26,6 +26,8 @@
 // S7  A carried set that holds m delivers m at its rising place: "the carried set in rising number, then m".
 // S8  A cut receipt still consumes the message and marks it received: "the sets change".
 // S9  An order needs no site that is up: the oracle acts.
+// S10 What is noted of a site only grows: GOOD, "contains m" and the union, even where a board built by hand has
+//     them before that site is heard. The paper is open here, and docs/DECISIONS.md decides.
 //
 // B1  C(m) ranges over the postings offered so far: others have no number.
 // B2  Site slots from n on are no sites of the board, so what stands in them is not judged; a set, mask or
@@ -35,6 +37,12 @@
 // B5  The set of sites down is a set: a site of n or more in it is unsound.
 // B6  The pool is a set by posting, so it cannot name one twice; nothing else is asked of sets (held
 //     outside seen, more sites down than f, ... are sound): "in just these cases".
+// B7  Where several causes of 6 apply, the first in the order of its list is named. A THIRD of a posting not
+//     offered has no owner to go to, and such a posting in the pool or the log none to finish it: it is named
+//     as not offered.
+// B8  In a row of numbers a list longer than 64 names one twice: no more than 64 postings are offered, so it does,
+//     or else it names one not offered. A third round under a number not offered names that posting.
+// B9  In a row, slots from n on have no meaning (B2). No rule speaks of them, so every call leaves them as they are.
 //
 // P1  A malformed file is `F 1` even if its n, f or matrix would be refused: 1 is the lowest number.
 // P2  Each line printed ends with a line feed and has no space at its end.
@@ -43,15 +51,19 @@
 pub mod board;
 pub mod books;
 pub mod call;
+pub mod cause;
 pub mod drain;
 pub mod flight;
 pub mod gen;
 pub mod malform;
+pub mod meaning;
+pub mod numbers;
 pub mod odd;
 pub mod posting;
 pub mod prng;
 pub mod program;
 pub mod refusal;
+pub mod row;
 pub mod runfile;
 pub mod scramble;
 pub mod set;
@@ -61,6 +73,7 @@ pub mod steps;
 
 pub use board::Board;
 pub use call::{Answer, Call};
+pub use cause::{Cause, CAUSES};
 pub use drain::Ending;
 pub use flight::{Flight, Message, DELIVER, FIRST, FORMS, SECOND, THIRD};
 pub use posting::{

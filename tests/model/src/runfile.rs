@@ -34,7 +34,8 @@ pub fn decode(bytes: &[u8]) -> Result<Run, Refusal> {
     })
 }
 
-fn decode_event(event: &[u8; EVENT]) -> Option<Call> {
+/// None if these bytes are no event.
+pub fn decode_event(event: &[u8; EVENT]) -> Option<Call> {
     let cut = event[9];
     let (cut, uncut) = ((cut != UNCUT).then_some(cut.into()), cut == UNCUT);
     match *event {

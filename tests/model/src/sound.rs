@@ -1,12 +1,27 @@
 // Holds: what makes a board unsound (refusal 6), cause by cause.
-// Rests on: board, posting, set, site, flight, refusal.
+// Rests on: cause, board, posting, set, site, flight, refusal.
 
 use crate::board::{judge_start, Board};
-use crate::flight::{FORMS, THIRD};
-use crate::posting::fields_ok;
+use crate::cause::{Cause, CAUSES};
+use crate::flight::THIRD;
+use crate::posting::{fields_ok, Posting};
 use crate::refusal::Refusal;
 use crate::set::{below, has, members, one, site as bit, POSTINGS, SITES};
 use crate::site::{Seconds, Site, Thirds};
+
+/// The postings of a list that a set can name.
+fn set_of(list: &[u8]) -> u64 {
+    let named = list.iter().map(|&m| usize::from(m));
+    named
+        .filter(|&m| m < POSTINGS)
+        .fold(0, |set, m| set | one(m))
+}
+
+fn names_twice(list: &[u8]) -> bool {
+    let mut met = [false; 256];
+    list.iter()
+        .any(|&m| std::mem::replace(&mut met[usize::from(m)], true))
+}
 
 impl Board {
     pub fn judge_sound(&self) -> Result<(), Refusal> {
@@ -17,96 +32,116 @@ impl Board {
         }
     }
 
-    /// The first two parts come first: the others rest on n and on the count of postings being sound.
     pub fn is_sound(&self) -> bool {
-        judge_start(self.n.into(), self.f.into(), self.matrix).is_ok()
-            && self.postings_sound()
-            && self.names_sites(self.down)
-            && self.sites[..usize::from(self.n)]
+        self.cause().is_none()
+    }
+
+    /// The first cause that applies, in the order of the list.
+    pub fn cause(&self) -> Option<Cause> {
+        CAUSES.into_iter().find(|&cause| self.has_cause(cause))
+    }
+
+    /// Whether one cause applies. It may be asked of any board, whatever others apply.
+    pub fn has_cause(&self, cause: Cause) -> bool {
+        match cause {
+            Cause::Start => judge_start(self.n.into(), self.f.into(), self.matrix).is_err(),
+            Cause::Owner => self.postings.iter().any(|p| p.owner >= self.n),
+            Cause::Fields => !self
+                .postings
                 .iter()
-                .all(|site| self.site_sound(site))
-            && self.flight_sound()
-            && self.oracle_sound()
-    }
-
-    fn names_sites(&self, sites: u8) -> bool {
-        sites & !self.everyone() == 0
-    }
-
-    fn names_offered(&self, set: u64) -> bool {
-        set & !below(self.postings.len()) == 0
-    }
-
-    fn postings_sound(&self) -> bool {
-        self.postings.len() <= POSTINGS
-            && self.postings.iter().all(|p| {
-                p.owner < self.n
-                    && fields_ok(p.kind.into(), p.a.into(), p.b.into(), p.amount.into())
-            })
-    }
-
-    /// The set of a list, unless it names one twice or one not offered.
-    fn set_of(&self, list: &[u8]) -> Option<u64> {
-        let mut set = 0;
-        for &m in list {
-            let m = usize::from(m);
-            if m >= self.postings.len() || has(set, m) {
-                return None;
-            }
-            set |= one(m);
+                .all(|p| fields_ok(p.kind.into(), p.a.into(), p.b.into(), p.amount.into())),
+            Cause::ThirdElsewhere => self.third_elsewhere(),
+            Cause::TooMany => self.postings.len() > POSTINGS,
+            Cause::NotOffered => self.names_not_offered(),
+            Cause::NoSuchSite => self.sites_named() & !self.everyone() != 0,
+            Cause::Twice => self.lists().any(names_twice),
+            Cause::PastLog => self.present().iter().any(|s| s.place > self.log.len()),
+            Cause::NotFinished => members(self.entered()).any(|m| self.unfinished(m)),
+            Cause::PoolAndLog => self.pool & set_of(&self.log) != 0,
         }
-        Some(set)
     }
 
-    fn site_sound(&self, site: &Site) -> bool {
-        self.names_offered(site.seen | site.held | site.stepped | site.finished | site.told)
-            && self.heard_sound(site)
-            && site.place <= self.log.len()
-            && self.set_of(&site.record).is_some()
+    /// The slots that are sites of the board.
+    fn present(&self) -> &[Site] {
+        &self.sites[..SITES.min(self.n.into())]
     }
 
-    fn heard_sound(&self, site: &Site) -> bool {
-        let offered = self.postings.len();
-        let (mut sites, mut set) = (0, 0);
-        for (seconds, thirds) in site.seconds.iter().zip(&site.thirds).take(offered) {
-            sites |= seconds.heard | seconds.good | thirds.heard | thirds.with;
-            set |= thirds.union;
-        }
-        self.names_sites(sites)
-            && self.names_offered(set)
-            && site.seconds[offered..].iter().all(|s| *s == Seconds::NONE)
-            && site.thirds[offered..].iter().all(|t| *t == Thirds::NONE)
+    /// The log and the records.
+    fn lists(&self) -> impl Iterator<Item = &[u8]> {
+        let records = self.present().iter().map(|site| site.record.as_slice());
+        records.chain([self.log.as_slice()])
     }
 
-    fn flight_sound(&self) -> bool {
-        (0..FORMS).all(|form| {
-            (0..POSTINGS).all(|m| {
-                (0..SITES).all(|from| {
-                    let to = self.flight.to[form][m][from];
-                    to == 0 || self.message_sound(form, m, from, to)
-                })
-            })
+    /// The postings whose entry is in the pool or the log.
+    pub fn entered(&self) -> u64 {
+        self.pool | set_of(&self.log)
+    }
+
+    /// Form, posting, sender and receivers of what is in flight.
+    fn under_way(&self) -> impl Iterator<Item = (usize, usize, usize, u8)> + '_ {
+        let all = self.flight.to.as_flattened().as_flattened();
+        let there = all.iter().enumerate().filter(|(_, &to)| to != 0);
+        there.map(|(k, &to)| (k / SITES / POSTINGS, k / SITES % POSTINGS, k % SITES, to))
+    }
+
+    /// A THIRD of a posting not offered has no owner; that it names the posting is the cause then.
+    fn third_elsewhere(&self) -> bool {
+        self.under_way().any(|(form, m, _, to)| {
+            let owner = self.postings.get(m).map(|p| usize::from(p.owner));
+            form == THIRD && owner.is_some_and(|owner| owner >= SITES || to != bit(owner))
         })
     }
 
-    /// Judges what is in flight of one form and posting from one site.
-    fn message_sound(&self, form: usize, m: usize, from: usize, to: u8) -> bool {
-        if m >= self.postings.len() || from >= usize::from(self.n) || !self.names_sites(to) {
-            return false;
-        }
-        form != THIRD
-            || to == bit(self.owner(m)) && self.names_offered(self.flight.carried[m][from])
+    fn names_not_offered(&self) -> bool {
+        let offered = self.postings.len();
+        let listed = self.lists().flatten().any(|&m| usize::from(m) >= offered);
+        listed || self.postings_named() & !below(offered) != 0
     }
 
-    /// The pool and the log.
-    fn oracle_sound(&self) -> bool {
-        let Some(logged) = self.set_of(&self.log) else {
-            return false;
+    /// The postings that sets, messages, entries and what was received name.
+    fn postings_named(&self) -> u64 {
+        let mut set = self.pool;
+        for m in members(self.entered()) {
+            set |= self.entries[m];
+        }
+        for site in self.present() {
+            set |= site.seen | site.held | site.stepped | site.finished | site.told;
+            for m in 0..POSTINGS {
+                set |= site.thirds[m].union;
+                if site.seconds[m] != Seconds::NONE || site.thirds[m] != Thirds::NONE {
+                    set |= one(m);
+                }
+            }
+        }
+        for (form, m, from, _) in self.under_way() {
+            set |= one(m);
+            if form == THIRD {
+                set |= self.flight.carried[m][from];
+            }
+        }
+        set
+    }
+
+    /// The sites that are named as down, as heard, or as sender or receiver of what is in flight.
+    fn sites_named(&self) -> u8 {
+        let mut sites = self.down;
+        for site in self.present() {
+            for (seconds, thirds) in site.seconds.iter().zip(&site.thirds) {
+                sites |= seconds.heard | seconds.good | thirds.heard | thirds.with;
+            }
+        }
+        for (_, _, from, to) in self.under_way() {
+            sites |= bit(from) | to;
+        }
+        sites
+    }
+
+    /// Whether a posting that was offered is not finished by its owner.
+    fn unfinished(&self, m: usize) -> bool {
+        let finished = |p: &Posting| {
+            let owner = self.sites.get(usize::from(p.owner));
+            owner.is_some_and(|site| has(site.finished, m))
         };
-        self.names_offered(self.pool)
-            && self.pool & logged == 0
-            && members(self.pool | logged).all(|m| {
-                has(self.sites[self.owner(m)].finished, m) && self.names_offered(self.entries[m])
-            })
+        self.postings.get(m).is_some_and(|p| !finished(p))
     }
 }

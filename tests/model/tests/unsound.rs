@@ -3,33 +3,8 @@
 
 mod common;
 
-use common::{no, receive, start};
+use common::{no, rich};
 use model::*;
-
-/// Three postings on three of seven slots: 0 delivered, 1 in the log, 2 in the pool, THIRDs in flight.
-fn rich() -> Board {
-    let mut board = start(3, 1);
-    board.offer(0, 0, 1, 2, 9, None).unwrap();
-    board.drain(6784).unwrap();
-    board.offer(0, 1, 4, 4, 250, None).unwrap();
-    board.offer(1, 2, 4, 4, 0, None).unwrap();
-    for (posting, to) in [(1, 0), (2, 1), (1, 2), (2, 0), (1, 1), (2, 2)] {
-        receive(&mut board, FIRST, posting, posting - 1, to);
-    }
-    for posting in [1, 2] {
-        for from in 0..2 {
-            (0..3).for_each(|s| receive(&mut board, SECOND, posting, from, s));
-        }
-        receive(&mut board, THIRD, posting, 2, posting - 1);
-        receive(&mut board, THIRD, posting, 1, posting - 1);
-    }
-    board.order(1).unwrap();
-    board.read(0, None).unwrap();
-    assert!(board.is_sound());
-    assert_eq!((board.log.as_slice(), board.pool), ([1].as_slice(), 0b100));
-    assert_eq!(board.flight.to[THIRD][1][0], 0b001);
-    board
-}
 
 fn refuses_all(name: &str, mut board: Board) {
     let before = board.clone();

@@ -14,7 +14,7 @@ pub type Start = (u8, u8, u16);
 const UNDER_WAY: usize = 4;
 
 /// An offer on the accounts below a number, by any site.
-fn offer(rng: &mut Prng, board: &Board, accounts: u64) -> Call {
+pub(crate) fn offer(rng: &mut Prng, board: &Board, accounts: u64) -> Call {
     let mix = Mix {
         accounts,
         offers: 100,
@@ -50,7 +50,7 @@ fn receipt(message: &Message) -> Call {
 }
 
 /// Useful receipts, with orders and reads.
-fn useful_calls(board: &Board) -> Vec<Call> {
+pub(crate) fn useful_calls(board: &Board) -> Vec<Call> {
     let messages = board.flight.messages(board.up());
     let wanted = messages.iter().filter(|message| useful(board, message));
     let mut calls: Vec<Call> = wanted.map(receipt).collect();

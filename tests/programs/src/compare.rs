@@ -2,7 +2,7 @@
 // Rests on: programs, files; the model's generator of numbers.
 
 use crate::files::{numbers, Sort};
-use crate::programs::{Programs, MODEL, NONE};
+use crate::programs::{Drains, Programs, MODEL, NONE};
 use model::prng::Prng;
 use model::{FIGURES, SITES};
 use text::statement::DRAIN;
@@ -13,6 +13,9 @@ const NUMBER: i64 = -0x5A5A_5A5A;
 
 /// Room for the books of as many sites as there can be, and a little more.
 const ROOM: usize = FIGURES * SITES + 3;
+
+/// By value every event may judge the whole board: files with more events than this are run so once.
+const LONG: usize = 200;
 
 /// What was compared: files, events of those whose start is accepted, and events that drains to quiet did.
 #[derive(Clone, Copy, Debug, Default, PartialEq, Eq)]
@@ -32,6 +35,7 @@ pub fn compare(programs: &Programs, input: &[u8], rng: &mut Prng) -> Result<Comp
     same_numbers(programs, input, events + spare)?;
     same_numbers(programs, input, events.saturating_sub(1))?;
     let drained = same_drain(programs, input, DRAIN, ROOM)?;
+    same_by_value(programs, input, DRAIN, ROOM)?;
     let mut done = Compared {
         files: 1,
         ..Compared::default()
@@ -46,6 +50,10 @@ pub fn compare(programs: &Programs, input: &[u8], rng: &mut Prng) -> Result<Comp
     let short = rng.below(whole as u64) as usize;
     let room = rng.pick(&[whole, whole - 1, short]);
     same_drain(programs, input, limit.min(1), room)?;
+    if events <= LONG {
+        same_by_value(programs, input, limit, ROOM)?;
+        same_by_value(programs, input, limit.min(1), room)?;
+    }
     done.events = events as u64;
     done.drained = drained;
     Ok(done)
@@ -95,13 +103,32 @@ fn same_numbers(programs: &Programs, input: &[u8], room: usize) -> Result<(), St
     }
 }
 
-/// The count, which is returned, and the whole slice, in which the books are and the rest stays.
 fn same_drain(programs: &Programs, input: &[u8], limit: u64, room: usize) -> Result<u64, String> {
+    same_books("run_drain", programs.run_drain, input, limit, room)
+}
+
+fn same_by_value(
+    programs: &Programs,
+    input: &[u8],
+    limit: u64,
+    room: usize,
+) -> Result<u64, String> {
+    same_books("run_by_value", programs.run_by_value, input, limit, room)
+}
+
+/// The count, which is returned, and the whole slice, in which the books are and the rest stays.
+fn same_books(
+    name: &str,
+    drains: Drains,
+    input: &[u8],
+    limit: u64,
+    room: usize,
+) -> Result<u64, String> {
     let mut wanted = vec![NUMBER; room];
     let count = (MODEL.run_drain)(input, limit, &mut wanted);
     let mut out = vec![NUMBER; room];
-    let answer = (programs.run_drain)(input, limit, &mut out);
-    let at_limit = format!("run_drain with limit {limit} and room {room}");
+    let answer = drains(input, limit, &mut out);
+    let at_limit = format!("{name} with limit {limit} and room {room}");
     if answer != count {
         return Err(format!("{at_limit} answers {answer}, the model {count}"));
     }

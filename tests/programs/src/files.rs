@@ -33,7 +33,11 @@ pub struct Sort {
     make: fn(&mut Prng, usize) -> Vec<u8>,
 }
 
-const fn sort(name: &'static str, count: usize, make: fn(&mut Prng, usize) -> Vec<u8>) -> Sort {
+pub(crate) const fn sort(
+    name: &'static str,
+    count: usize,
+    make: fn(&mut Prng, usize) -> Vec<u8>,
+) -> Sort {
     Sort { name, count, make }
 }
 
@@ -68,7 +72,7 @@ impl Sort {
 }
 
 /// The kth start, with a matrix at random.
-fn start(rng: &mut Prng, k: usize) -> (u8, u8, u16) {
+pub(crate) fn start(rng: &mut Prng, k: usize) -> (u8, u8, u16) {
     let (n, f) = STARTS[k % STARTS.len()];
     (n, f, legal_matrix(rng))
 }

@@ -6,7 +6,9 @@ use crate::programs::Programs;
 pub const PROVED: Programs = Programs {
     run_file,
     run_drain,
+    run_by_value,
     run_events,
+    call_changed,
 };
 
 mod library {
@@ -19,7 +21,27 @@ mod library {
             out: *mut i64,
             room: usize,
         ) -> u64;
+        pub fn run_by_value(
+            input: *const u8,
+            length: usize,
+            limit: u64,
+            out: *mut i64,
+            room: usize,
+        ) -> u64;
         pub fn run_events(input: *const u8, length: usize, numbers: *mut u8, room: usize) -> u64;
+        pub fn call_changed(
+            input: *const u8,
+            length: usize,
+            place: u64,
+            value: u64,
+            event: *const u8,
+            event_length: usize,
+            limit: u64,
+            figures: *mut i64,
+            figures_room: usize,
+            board: *mut u64,
+            board_room: usize,
+        ) -> u64;
     }
 }
 
@@ -36,7 +58,38 @@ fn run_drain(input: &[u8], limit: u64, out: &mut [i64]) -> u64 {
     unsafe { library::run_drain(input.as_ptr(), input.len(), limit, start, room) }
 }
 
+fn run_by_value(input: &[u8], limit: u64, out: &mut [i64]) -> u64 {
+    let (start, room) = (out.as_mut_ptr(), out.len());
+    unsafe { library::run_by_value(input.as_ptr(), input.len(), limit, start, room) }
+}
+
 fn run_events(input: &[u8], numbers: &mut [u8]) -> u64 {
     let (start, room) = (numbers.as_mut_ptr(), numbers.len());
     unsafe { library::run_events(input.as_ptr(), input.len(), start, room) }
+}
+
+fn call_changed(
+    input: &[u8],
+    place: u64,
+    value: u64,
+    event: &[u8],
+    limit: u64,
+    figures: &mut [i64],
+    board: &mut [u64],
+) -> u64 {
+    unsafe {
+        library::call_changed(
+            input.as_ptr(),
+            input.len(),
+            place,
+            value,
+            event.as_ptr(),
+            event.len(),
+            limit,
+            figures.as_mut_ptr(),
+            figures.len(),
+            board.as_mut_ptr(),
+            board.len(),
+        )
+    }
 }

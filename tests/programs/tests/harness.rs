@@ -79,6 +79,39 @@ fn wrong_drains_are_found() {
 }
 
 #[test]
+fn wrong_drains_by_value_are_found() {
+    let with = |run_by_value| Programs {
+        run_by_value,
+        ..MODEL
+    };
+    let none = |_: &[u8], _, _: &mut [i64]| NONE;
+    found(
+        with(none),
+        "run_by_value with limit 6784 and room 451 answers",
+    );
+    let figure = |input: &[u8], limit, out: &mut [i64]| {
+        let answer = (MODEL.run_drain)(input, limit, out);
+        if let Some(figure) = out.get_mut(64) {
+            *figure += 1;
+        }
+        answer
+    };
+    found(with(figure), "run_by_value with");
+    let early =
+        |input: &[u8], limit: u64, out: &mut [i64]| (MODEL.run_drain)(input, limit.max(1), out);
+    found(with(early), "run_by_value with limit 0");
+    let cramped = |input: &[u8], limit, out: &mut [i64]| match (MODEL.run_drain)(input, limit, out)
+    {
+        NONE if model::decode(input).is_ok() => {
+            out.fill(0);
+            NONE
+        }
+        answer => answer,
+    };
+    found(with(cramped), "has 0 at 0");
+}
+
+#[test]
 fn wrong_numbers_are_found() {
     let with = |run_events| Programs {
         run_events,
