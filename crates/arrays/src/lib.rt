@@ -6,12 +6,12 @@ ghost use Rattle.sets.specs.Sets.{capacity};
 ghost use Rattle.site.specs.Sites.{sites};
 ghost use Rattle.arrays.specs.Layout.{slots};
 ghost use Rattle.arrays.specs.Arrays.{slotSet, storing, hasIn, adding, dropping, marked};
+use masks::with_site;
 use sets::POSTINGS;
 use sets::Set;
 use sets::WORDS;
 use site::SITES;
 use steps::Cut;
-use steps::cuts::down_after;
 
 pub mod messages;
 
@@ -141,6 +141,13 @@ pub fn mark(bytes: &mut [u8; BYTES], p: usize, cut: Cut)
     requires { ⌜ p < sites ⌝ }
     ensures { λ _. ⌜ now (bytes .exit) ≡ marked (now (bytes .entry)) p cut ⌝ }
 {
-    let down = bytes[DOWN];
-    bytes[DOWN] = down_after(down, p as u8, cut);
+    match cut {
+        Cut::Whole => {
+            return;
+        }
+        Cut::After(j) => {
+            let down = bytes[DOWN];
+            bytes[DOWN] = with_site(down, p as u8);
+        }
+    }
 }
