@@ -1,7 +1,9 @@
 // The refusals of a call that hands in a sound board, by number: the lowest that applies, 0 if none does.
 // Rests on masks and posting. Each function tests some of the causes, in rising number.
+ghost use Prim.Native.Nat.{_≤_};
 ghost use mathlib.Core.Path.{_≡_};
 ghost use lib.Count.{ones};
+ghost use Rattle.site.specs.Sites.{sites};
 ghost use Rattle.steps.specs.Causes.{firstCause, siteCauses, messageCauses, offerCauses, cutCauses};
 use crate::Cut;
 use masks::has_site;
@@ -24,13 +26,20 @@ pub fn site_refusal(n: u8, down: u8, p: usize) -> u8
 
 // 7 and 8 of a message's sender and receiver.
 pub fn message_refusal(n: u8, down: u8, from: usize, to: usize) -> u8
+    requires { ⌜ n ≤ sites ⌝ }
     ensures { λ r. ⌜ r ≡ firstCause (messageCauses n down from to) ⌝ }
 {
     let limit = n as usize;
     if limit <= from {
         return 7;
     }
-    site_refusal(n, down, to)
+    if limit <= to {
+        return 7;
+    }
+    if (down >> to) % 2 == 1 {
+        return 8;
+    }
+    0
 }
 
 // 9 and 10 of an offer, where so many were offered.

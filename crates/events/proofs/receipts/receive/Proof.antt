@@ -12,7 +12,7 @@ element-copy-out-down : tie.Need-element-copy-out-down
 element-copy-out-down c = search needs
 
 message-refusal-requires : tie.Need-message-refusal-requires
-message-refusal-requires c κs = search needs
+message-refusal-requires c κs = c .before .pre
 
 returns : tie.Need-returns
 returns c =
