@@ -1,3 +1,5 @@
+-- What the proof of the theorem is made of: a board as the theory sees it, each call as an event of the theory, and the books.
+-- Rests on the specs.
 pub mod World
 pub mod Shows
 pub mod Casts

@@ -1,7 +1,7 @@
 -- Laws of parts of a list and of slots of sets: what a store changes and what it leaves, and one bit where it lies.
--- In order: part-ext, part-other, part-set, get-sets-other, part-sets, sets-self, sets-one; slot-long, slot-shape, slot-zero; insert-long,
--- remove-long; slot-other, slot-same, long-stored, storing-self; has-slot, adding-is, dropping-is; long-added, long-dropped, slot-added,
--- slot-dropped, slot-added-other, slot-dropped-other, has-added, shape-added. Rests on Arrays and on flight's wordsFrom. Assumes nothing.
+-- In order: part-ext, part-other, part-set, get-sets-other, part-sets, sets-self, sets-one; slot-long, slot-zero; insert-long,
+-- remove-long; long-stored, slot-other, slot-same; has-slot, adding-is, dropping-is; long-added, slot-added, slot-added-other, has-added,
+-- shape-added. Rests on Arrays and on flight's wordsFrom. Assumes nothing.
 use Prim.Native.Nat.{ℕ, zero, suc, _+_, _*_, _-_, _/_, _%_, _^_, _<_, _≤_}
 use mathlib.Core.Path.{_≡_, refl, sym, ap, ap₂, _∙_}
 use mathlib.Core.Logic.{_⊎_, inl, inr, _≢_}
@@ -16,8 +16,8 @@ use lib.Bits.{bitOr, bitAnd}
 use borrow.Author.Tests.{eq-eqb, ne-eqb}
 use Rattle.sets.specs.declared.Set.{Set}
 use Rattle.sets.specs.Masks.{hasBit}
-use Rattle.sets.specs.Words.{Words, member, insert, remove}
-use Rattle.sets.specs.WordLaws.{member-insert, word-small, insert-shape}
+use Rattle.sets.specs.Words.{member, insert, remove}
+use Rattle.sets.specs.WordLaws.{member-insert, insert-shape}
 use Rattle.sets.specs.Sets.{words, capacity, ofWords, emptySet, has, with, without, Shape}
 use Rattle.flight.specs.Flights.{wordsFrom}
 use Rattle.flight.specs.ArrayLaws.{zero-at}
@@ -93,14 +93,6 @@ pub slot-long : (ws : List ℕ) (slot : ℕ) → length (slotSet ws slot .words)
 unfolding slotSet
 slot-long ws slot = length-words-from ws (words * slot) words
 
-pub slot-shape : {n : ℕ} (ws : List ℕ) (slot : ℕ) → Words n ws → Shape (slotSet ws slot)
-unfolding slotSet
-slot-shape ws slot s =
-    record {
-      long = length-words-from ws (words * slot) words;
-      small = λ j h. rw (word-from ws (words * slot) words j h) (word-small ws (words * slot + j) s);
-    }
-
 -- where all words are 0
 pub slot-zero : (n slot : ℕ) → slotSet (replicate n 0) slot ≡ emptySet
 unfolding slotSet wordsFrom
@@ -144,11 +136,6 @@ module _ (ws : List ℕ) (slot : ℕ) (s : Set) where
         ap (λ (n : ℕ). ofWords (wordsFrom (sets ws (words * slot) (s .words)) (words * slot) n)) (sym size)
         ∙ ap ofWords (part-sets (s .words) ws (words * slot) (omega arith))
 
--- what stands there, stored there
-pub storing-self : (ws : List ℕ) (slot : ℕ) → storing ws slot (slotSet ws slot) ≡ ws
-unfolding storing slotSet
-storing-self ws slot = sets-self ws (words * slot) words
-
 -- ---- one bit where it lies
 
 pub has-slot : (ws : List ℕ) (slot x : ℕ) → x < capacity → hasIn ws slot x ≡ has (slotSet ws slot) x
@@ -173,32 +160,17 @@ module _ (ws : List ℕ) (slot m : ℕ) where
   unfolding adding
   long-added = length-set ws (wordAt slot m) _
 
-  pub long-dropped : length (dropping ws slot m) ≡ length ws
-  unfolding dropping
-  long-dropped = length-set ws (wordAt slot m) _
-
   size-with : length (insert (slotSet ws slot .words) m) ≡ words
   size-with = insert-long (slotSet ws slot .words) m ∙ slot-long ws slot
-
-  size-without : length (remove (slotSet ws slot .words) m) ≡ words
-  size-without = remove-long (slotSet ws slot .words) m ∙ slot-long ws slot
 
   module _ (h : m < capacity) where
     pub slot-added : slot < slots → length ws ≡ setsLong → slotSet (adding ws slot m) slot ≡ with (slotSet ws slot) m
     slot-added b l =
         ap (λ (r : List ℕ). slotSet r slot) (adding-is h) ∙ slot-same ws slot (with (slotSet ws slot) m) size-with b l
 
-    pub slot-dropped : slot < slots → length ws ≡ setsLong → slotSet (dropping ws slot m) slot ≡ without (slotSet ws slot) m
-    slot-dropped b l =
-        ap (λ (r : List ℕ). slotSet r slot) (dropping-is h) ∙ slot-same ws slot (without (slotSet ws slot) m) size-without b l
-
     pub slot-added-other : (other : ℕ) → slot ≢ other → slotSet (adding ws slot m) other ≡ slotSet ws other
     slot-added-other other d =
         ap (λ (r : List ℕ). slotSet r other) (adding-is h) ∙ slot-other ws slot (with (slotSet ws slot) m) size-with other d
-
-    pub slot-dropped-other : (other : ℕ) → slot ≢ other → slotSet (dropping ws slot m) other ≡ slotSet ws other
-    slot-dropped-other other d =
-        ap (λ (r : List ℕ). slotSet r other) (dropping-is h) ∙ slot-other ws slot (without (slotSet ws slot) m) size-without other d
 
     -- what is in a slot, of any sort, once m joined one
     module _ (b : slot < slots) (l : length ws ≡ setsLong) (other : ℕ) where

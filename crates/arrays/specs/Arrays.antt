@@ -38,9 +38,6 @@ withCounts a counts = arrays (a .sets) counts (a .bytes) (a .amounts) (a .masks)
 abbrev pub withBytes : Arrays → List ℕ → Arrays
 withBytes a bytes = arrays (a .sets) (a .counts) bytes (a .amounts) (a .masks) (a .good) (a .carried)
 
-abbrev pub withAmounts : Arrays → List ℕ → Arrays
-withAmounts a amounts = arrays (a .sets) (a .counts) (a .bytes) amounts (a .masks) (a .good) (a .carried)
-
 abbrev pub withMasks : Arrays → List ℕ → Arrays
 withMasks a masks = arrays (a .sets) (a .counts) (a .bytes) (a .amounts) masks (a .good) (a .carried)
 

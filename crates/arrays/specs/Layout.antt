@@ -1,7 +1,8 @@
 -- Where each part of a board at work stands in its flat arrays.
--- Rests on sets and site for the numbers of postings, words and sites. The code's constants of the same names are these.
+-- Rests on sets, posting and site for the numbers of postings, words, accounts, kinds and sites. The code's constants of the same names are these.
 use Prim.Native.Nat.{ℕ, _+_, _*_}
 use Rattle.sets.specs.Sets.{words, capacity}
+use Rattle.posting.specs.Kinds.{kinds, accounts}
 use Rattle.site.specs.Sites.{sites}
 
 -- ---- slots of sets: of site p, of the pool, of posting m
@@ -36,10 +37,10 @@ abbrev pub shownSlots : ℕ
 shownSlots = 5 * sites + 1 + 2 * capacity
 
 abbrev pub kindSlots : ℕ
-kindSlots = 64
+kindSlots = accounts * kinds
 
 abbrev pub kindOf : ℕ → ℕ → ℕ
-kindOf account kind = shownSlots + (account * 4 + kind)
+kindOf account kind = shownSlots + (account * kinds + kind)
 
 abbrev pub haveOf : ℕ → ℕ
 haveOf p = shownSlots + kindSlots + p

@@ -1,5 +1,5 @@
 // A board at work, laid out in flat arrays that are lent: where each part of it stands, and sets and masks where they lie.
-// Rests on flight, steps, masks, site and sets. A struct that is handed over is copied, and an array that is lent is not.
+// Rests on flight, steps, masks, site, posting and sets. A struct that is handed over is copied, and an array that is lent is not.
 ghost use Prim.Native.Nat.{_<_};
 ghost use mathlib.Core.Path.{_≡_};
 ghost use Rattle.sets.specs.Sets.{capacity};
@@ -7,6 +7,8 @@ ghost use Rattle.site.specs.Sites.{sites};
 ghost use Rattle.arrays.specs.Layout.{slots};
 ghost use Rattle.arrays.specs.Arrays.{slotSet, storing, hasIn, adding, dropping, marked};
 use masks::with_site;
+use posting::ACCOUNTS;
+use posting::KINDS;
 use sets::POSTINGS;
 use sets::Set;
 use sets::WORDS;
@@ -36,7 +38,7 @@ pub const ENTRY: usize = UNION + POSTINGS;
 // Behind them what no board shows: the postings offered by account and kind, from which C(m) is read; and what each record has.
 pub const BY_KIND: usize = ENTRY + POSTINGS;
 
-pub const HAVE: usize = BY_KIND + 64;
+pub const HAVE: usize = BY_KIND + ACCOUNTS as usize * KINDS as usize;
 
 pub const SLOTS: usize = HAVE + SITES;
 

@@ -1,3 +1,5 @@
+-- Laws of figures and books, and what the proofs of the code share.
+-- Rests on the specs.
 pub mod Signed
 pub mod Lists
 pub mod Blocks

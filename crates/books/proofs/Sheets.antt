@@ -1,9 +1,9 @@
 -- Posting on a sheet: what the code does with a line of a record, and what a record that may be posted says of each line.
 -- Rests on Lines. Assumes nothing.
-use mathlib.Core.Path.{_≡_, refl, sym, ap, _∙_, subst, fun-ext}
+use mathlib.Core.Path.{_≡_, refl, sym, ap, _∙_, subst, subst⁻¹, fun-ext}
 use mathlib.Core.Bool.{Bool, true, false, cond}
 use mathlib.Core.List.{List}
-use Prim.Native.Nat.{ℕ, zero, suc, _<_, _≤_}
+use Prim.Native.Nat.{ℕ, zero, suc, _+_, _<_, _≤_}
 use native.Mathlib.Decide.{ℕ-discrete}
 use native.Mathlib.Omega.{arith}
 use lib.Dec.{eqb, lit≤}
@@ -16,7 +16,7 @@ use Rattle.posting.specs.declared.Table.{Table}
 use Rattle.posting.specs.declared.Record.{Record}
 use Rattle.posting.specs.Kinds.{accounts}
 use Rattle.posting.specs.KindLaws.{Fields, fields}
-use Rattle.posting.specs.Conflicts.{row}
+use Rattle.posting.specs.Conflicts.{noPosting, row}
 use Rattle.posting.specs.ConflictLaws.{offered-below, touches-first, touches-second}
 use Rattle.books.specs.declared.Figures.{Figures}
 use Rattle.books.specs.declared.Sheet.{Sheet}
@@ -25,7 +25,7 @@ use Rattle.books.specs.Books.{Books, blank, post, books, zeros, tabulate
 use Rattle.books.specs.Bounds.{After, Room, Opening, Postable}
 use Rattle.books.proofs.Effects.{effect-touched, effect-untouched, touches-neither}
 use Rattle.books.proofs.Bounds.{effect-after, later, room}
-use Rattle.books.proofs.Lines.{books-after}
+use Rattle.books.proofs.Lines.{books-after, next-line}
 use Rattle.books.proofs.Lists.{getD-tabulate, is-tabulate, getD-changed, changed-both}
 
 -- ---- a line on the sheet: account a, then account b if that is another one
@@ -92,13 +92,13 @@ blank-opening k h = rw (getD-tabulate accounts blank zeros k h) (record { positi
 -- ---- a record that may be posted
 
 module _ (table : Table) (delivered : Record) (ok : Postable table delivered) where
-  pub line-within : (i : ℕ) → i < delivered .count → getD (delivered .numbers) i 0 < capacity
+  line-within : (i : ℕ) → i < delivered .count → getD (delivered .numbers) i 0 < capacity
   line-within i h = offered-below table (getD (delivered .numbers) i 0) (ok .lines i h) .1
 
-  pub line-fields : (i : ℕ) → i < delivered .count → Fields (row table (getD (delivered .numbers) i 0))
+  line-fields : (i : ℕ) → i < delivered .count → Fields (row table (getD (delivered .numbers) i 0))
   line-fields i h = fields (row table (getD (delivered .numbers) i 0)) (ok .rows (getD (delivered .numbers) i 0) (ok .lines i h))
 
-  pub lines-after : (s : Books) → Opening s → (i : ℕ) → i ≤ delivered .count → i ≤ length (delivered .numbers) → (k : ℕ) → k < accounts
+  lines-after : (s : Books) → Opening s → (i : ℕ) → i ≤ delivered .count → i ≤ length (delivered .numbers) → (k : ℕ) → k < accounts
       → After i (books s table (take i (delivered .numbers)) k)
   lines-after s h i within here k b =
       let size : length (take i (delivered .numbers)) ≡ i = length-take-le i (delivered .numbers) here in
@@ -109,6 +109,38 @@ module _ (table : Table) (delivered : Record) (ok : Postable table delivered) wh
       each j l =
           let m : j < i = omega (arith, length-take-le i (delivered .numbers) here) in
           rw (getD-take i (delivered .numbers) j 0 m) (line-fields j (omega arith))
+
+  -- line i, from opening figures s; m is its posting number as the code has it
+  module _ (s : Books) (opens : Opening s) (long : length (delivered .numbers) ≡ capacity) (i : ℕ) (here : i < delivered .count) (m : ℕ)
+      (em : m ≡ getD (delivered .numbers) i 0) where
+    abbrev posting : Posting
+    posting = getD (table .rows) m noPosting
+
+    -- the books of the first n lines
+    abbrev books-to : ℕ → Books
+    books-to n = books s table (take n (delivered .numbers))
+
+    pub number-within : m < capacity
+    number-within = rw em (line-within i here)
+
+    posting-is : posting ≡ row table (getD (delivered .numbers) i 0)
+    unfolding row
+    posting-is = ap (λ (k : ℕ). getD (table .rows) k noPosting) em
+
+    early : i < capacity
+    early = omega (arith, here, ok .within)
+
+    pub line-begins : (l : List Figures) (a : ℕ) → l ≡ tabulate accounts (books-to i) → a ≡ posting .a → Line i (books-to i) posting l a
+    line-begins l a el ea = record {
+      early = early;
+      bounded = lines-after s opens i (omega (arith, here)) (omega (arith, early, long));
+      ok = subst⁻¹ (λ (p : Posting). Fields p) posting-is (line-fields i here);
+      from = el;
+      first = ea;
+    }
+
+    pub line-posted : post posting (books-to i) ≡ books-to (i + 1)
+    line-posted = ap (λ (p : Posting). post p (books-to i)) posting-is ∙ next-line s table (delivered .numbers) i (omega (arith, early, long))
 
 -- past the sixteen accounts zeros are read, too
 pub blank-figures : figuresOf (sheetOf blank) ≡ blank

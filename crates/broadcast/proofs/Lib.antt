@@ -1,3 +1,5 @@
+-- The theory: what every run keeps, one order of all postings, progress, and what a posting costs.
+-- Rests on the specs.
 pub mod Tests
 pub mod Counts
 pub mod Lists

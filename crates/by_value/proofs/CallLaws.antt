@@ -1,5 +1,5 @@
 -- Each way out of a call of a changed board gives what its definition says, from the results of the code's calls.
--- Rests on the specs, on statements for a start. Assumes nothing.
+-- Rests on the specs, on runfile for a start. Assumes nothing.
 use Prim.Native.Nat.{ℕ, _≤_}
 use mathlib.Core.Path.{_≡_, sym, ap, _∙_}
 use mathlib.Core.Logic.{_≢_}
@@ -23,10 +23,10 @@ use Rattle.drain.specs.declared.Ending.{Ending}
 use Rattle.drain.specs.declared.Drained.{Drained}
 use Rattle.drain.specs.Drain.{endingOf}
 use Rattle.decoder.specs.RunFile.{setupOf, codeOf, eventOk, wellFormed, callsOf}
-use Rattle.statements.proofs.Stated.{refused, started}
+use Rattle.runfile.proofs.Programs.{file-refused, file-taken}
 use Rattle.by_value.specs.declared.Request.{Request}
 use Rattle.by_value.specs.declared.Reply.{Reply}
-use Rattle.by_value.specs.Drains.{noCount}
+use Rattle.by_value.specs.Answers.{noCount}
 use Rattle.by_value.specs.Changed.{isRequest, requestOf, firstValue, replyOfCall, replyOfDrain, replyTo, figuresAfter, filledLong, filled, Called, handedBack, changedAt, calledFrom, mayCall, callChanged}
 
 -- an answer and two slices are those of a definition
@@ -84,10 +84,10 @@ module _ (input : List ℕ) (place value : ℕ) (event : List ℕ) (limit : ℕ)
     pub refused-none : why ≢ 0 → Gives noCount figures slice (callChanged input place value event limit figures slice)
     unfolding callChanged calledFrom
     refused-none n =
-        let e = refused input setup why (well input event (length slice) may) es tested n in
+        let e = file-refused setup why tested input es n in
         (rw (may, sym e, ne-eqb why 0 n), (rw (may, sym e, ne-eqb why 0 n), rw (may, sym e, ne-eqb why 0 n)))
 
     pub started-calls : (b : Board) (request : Request) → why ≡ 0 → b ≡ changedAt (running (freshBoard setup) (callsOf input)) place value → request ≡ requestOf event
         → handedBack b request limit figures slice ≡ callChanged input place value event limit figures slice
     unfolding callChanged calledFrom
-    started-calls b request z eb er = rw (may, sym (started input setup why (well input event (length slice) may) es tested z), eb, er)
+    started-calls b request z eb er = rw (may, sym (file-taken setup why tested input es z), eb, er)

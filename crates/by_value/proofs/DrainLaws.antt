@@ -17,10 +17,11 @@ use Rattle.drain.specs.declared.Drained.{Drained}
 use Rattle.drain.specs.Drain.{drained}
 use Rattle.decoder.specs.RunFile.{setupOf, wellFormed, callsOf}
 use Rattle.runfile.proofs.Programs.{startWith}
-use Rattle.by_value.specs.Drains.{noCount, DrainedBooks, drainedRun, drainedFrom, drainedFile}
+use Rattle.by_value.specs.Answers.{Counted, noCount}
+use Rattle.by_value.specs.Drains.{drainedRun, drainedFrom, drainedFile}
 
 -- an answer and a slice are those of a definition
-abbrev pub Gives : ℕ → List ℤ → DrainedBooks → Type 0
+abbrev pub Gives : {A : Type 0} → ℕ → List A → Counted A → Type 0
 Gives count slice d = (count ≡ d .count) × (slice ≡ d .slice)
 
 -- a drain of the board that calls leave, and the books after it

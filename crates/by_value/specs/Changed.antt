@@ -21,7 +21,7 @@ use Rattle.decoder.specs.RunFile.{setupOf, codeOf, eventOk, wellFormed, callOf,
 use Rattle.by_value.specs.declared.Request.{Request}
 use Rattle.by_value.specs.declared.Request.the-variants.{Take, Drain, Books}
 use Rattle.by_value.specs.declared.Reply.{Reply}
-use Rattle.by_value.specs.Drains.{noCount}
+use Rattle.by_value.specs.Answers.{noCount}
 
 -- ---- what ten bytes ask for
 

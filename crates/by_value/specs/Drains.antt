@@ -13,32 +13,21 @@ use Rattle.machine.specs.Runs.{running}
 use Rattle.machine.specs.Figures.{showingAll}
 use Rattle.drain.specs.Drain.{drained}
 use Rattle.decoder.specs.RunFile.{setupOf, wellFormed, callsOf}
-
--- the answer where there is no count: 2^64 − 1
-abbrev pub noCount : ℕ
-noCount = 18_446_744_073_709_551_615
-
-pub record DrainedBooks : Type 0 where
-  pub count : ℕ
-  pub slice : List ℤ
-
--- nothing done, and the slice as it was
-abbrev pub notDone : List ℤ → DrainedBooks
-notDone slice = record { count = noCount; slice = slice }
+use Rattle.by_value.specs.Answers.{Counted, noCount, notDone}
 
 -- the drain's count, and the books of all sites after it; no count where the slice is too short
-unfoldable pub drainedRun : Board → List Call → ℕ → List ℤ → DrainedBooks
+unfoldable pub drainedRun : Board → List Call → ℕ → List ℤ → Counted ℤ
 drainedRun b calls limit slice =
     let done = drained (running b calls) limit in
     let books = showingAll (done .board) slice in
     record { count = cond (eqb (refusalOf (books .answer)) 0) (done .count) noCount; slice = books .slice }
 
 -- a refused start does nothing
-unfoldable pub drainedFrom : Outcome → List Call → ℕ → List ℤ → DrainedBooks
+unfoldable pub drainedFrom : Outcome → List Call → ℕ → List ℤ → Counted ℤ
 drainedFrom o calls limit slice = cond (eqb (refusalOf (o .answer)) 0) (drainedRun (o .board) calls limit slice) (notDone slice)
 
 -- nor does a malformed file
-unfoldable pub drainedFile : List ℕ → ℕ → List ℤ → DrainedBooks
+unfoldable pub drainedFile : List ℕ → ℕ → List ℤ → Counted ℤ
 drainedFile input limit slice =
     let setup = setupOf input in
     cond (wellFormed input) (drainedFrom (starting (setup .n) (setup .f) (setup .matrix)) (callsOf input) limit slice) (notDone slice)

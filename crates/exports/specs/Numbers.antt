@@ -9,25 +9,17 @@ use Rattle.machine.specs.declared.Outcome.{Outcome}
 use Rattle.machine.specs.Calls.{refusalOf, starting}
 use Rattle.decoder.specs.RunFile.{setupOf, wellFormed, eventCount, callsOf}
 use Rattle.runfile.specs.Program.{refusals}
-use Rattle.by_value.specs.Drains.{noCount}
-
-pub record Numbered : Type 0 where
-  pub count : ℕ
-  pub slice : List ℕ
-
--- no count, and the slice as it was
-abbrev pub notRun : List ℕ → Numbered
-notRun slice = record { count = noCount; slice = slice }
+use Rattle.by_value.specs.Answers.{Counted, notDone}
 
 -- of a board that a start gives: the number of each event's answer, 0 of an accepted one; beyond them the slice stays. Not where they have no room
-unfoldable pub numberedFrom : Outcome → List ℕ → List ℕ → Numbered
+unfoldable pub numberedFrom : Outcome → List ℕ → List ℕ → Counted ℕ
 numberedFrom o input slice =
     let count = eventCount input in
     let numbers = refusals (o .board) (callsOf input) in
-    cond (eqb (refusalOf (o .answer)) 0) (cond (ltb (length slice) count) (notRun slice) (record { count = count; slice = numbers ++ drop count slice })) (notRun slice)
+    cond (eqb (refusalOf (o .answer)) 0) (cond (ltb (length slice) count) (notDone slice) (record { count = count; slice = numbers ++ drop count slice })) (notDone slice)
 
 -- nor of a malformed file
-unfoldable pub numberedFile : List ℕ → List ℕ → Numbered
+unfoldable pub numberedFile : List ℕ → List ℕ → Counted ℕ
 numberedFile input slice =
     let setup = setupOf input in
-    cond (wellFormed input) (numberedFrom (starting (setup .n) (setup .f) (setup .matrix)) input slice) (notRun slice)
+    cond (wellFormed input) (numberedFrom (starting (setup .n) (setup .f) (setup .matrix)) input slice) (notDone slice)

@@ -1,6 +1,6 @@
 -- The sends to all, and to all but one, are one mask of receivers: the code of a step sends masks. Sends of the same message one after the other
 -- are the joined mask; the first j sends are a mask too. Rests on Flights, FlightLaws and SendLaws. Assumes nothing.
-use Prim.Native.Nat.{ℕ, zero, suc, _-_, _^_, _<_, min}
+use Prim.Native.Nat.{ℕ, zero, suc, _-_, _^_, min}
 use mathlib.Core.Path.{_≡_, refl, sym, ap, _∙_}
 use mathlib.Core.Logic.{inl, inr, _≢_}
 use mathlib.Core.Bool.{Bool, true, false, cond, not, _&&_, _||_, or-false, and-false}
@@ -16,15 +16,14 @@ use Rattle.sets.specs.declared.Set.{Set}
 use Rattle.sets.specs.Masks.{hasBit}
 use Rattle.sets.specs.MaskLaws.{has-bit-pow, has-bit-set, bits-ext}
 use Rattle.sets.specs.Truth.{test}
-use Rattle.sets.specs.Sets.{capacity, emptySet}
-use Rattle.site.specs.Sites.{sites}
+use Rattle.sets.specs.Sets.{emptySet}
 use Rattle.site.specs.Sends.{FIRST, SECOND, THIRD, DELIVER, Send, first, second, third, deliver, toAll, toOthers}
 use Rattle.flight.specs.declared.Flight.{Flight}
-use Rattle.flight.specs.Flights.{less, flightOf, goodTo, sendingTo, saying, carrying, sending, sendingAll, sendingMask, Shape}
+use Rattle.flight.specs.Flights.{less, flightOf, sendingTo, saying, carrying, sending, sendingAll, sendingMask}
 use Rattle.flight.specs.CellLaws.{has-bit-less, has-bit-ones, ones-more}
 use Rattle.flight.specs.ArrayLaws.{sending-none, saying-none, sending-twice, saying-twice}
 use Rattle.flight.specs.CarriedLaws.{carrying-twice}
-use Rattle.flight.specs.FlightLaws.{mask-good, send-mask}
+use Rattle.flight.specs.FlightLaws.{send-mask}
 use Rattle.flight.specs.SendLaws.{all-append, take-to-all, take-to-others, upTo, ltb-more}
 
 -- ---- masks one after the other
@@ -153,14 +152,3 @@ module _ (send : ℕ → Send) (form m : ℕ) (so : Bool) (load : Set) (is : Bro
   pub first-others-mask :
       (j n p : ℕ) → sendingAll flight from (take j (toOthers n p send)) ≡ sendingMask flight from form m (less (2 ^ min (upTo j p) n - 1) (2 ^ p)) so load
   first-others-mask j n p = rw (take-to-others send j n p) (to-others-mask (min (upTo j p) n) p)
-
--- the verdict of the first j SECONDs to all is that of the sites that they reach; the others keep theirs
-pub first-all-good :
-    (flight : Flight) → Shape flight → (from m : ℕ) (good : Bool) → from < sites → m < capacity → (j n x a b : ℕ)
-    → hasBit (goodTo (sendingAll flight from (take j (toAll n (λ to. second m to good)))) x a) b
-    ≡ cond (eqb x m && eqb a from && ltb b (min j n)) good (hasBit (goodTo flight x a) b)
-first-all-good flight s from m good hf hm j n x a b =
-    ap (λ (g : Flight). hasBit (goodTo g x a) b)
-    (first-all-mask (λ to. second m to good) SECOND m good emptySet (second-broadcast m good) flight from j n)
-    ∙ mask-good flight s from SECOND m (2 ^ min j n - 1) good emptySet hf hm x a b
-    ∙ rw (has-bit-ones (min j n) b)

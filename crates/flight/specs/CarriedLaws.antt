@@ -133,14 +133,10 @@ set-shape-in carried s m from = elim (test (ltb (pairAt m from) pairs)) [
     at : ℕ
     at = words * pairAt m from
 
--- no set stands past the last pair, and none is stored there
+-- no set stands past the last pair
 pub set-past : (carried : List ℕ) (m from : ℕ) → pairs ≤ pairAt m from → setIn carried m from ≡ emptySet
 unfolding setIn
 set-past carried m from h = rw (le-ltb (pairAt m from) pairs h)
-
-pub carrying-past : (carried : List ℕ) (m from : ℕ) (load : Set) → pairs ≤ pairAt m from → carrying carried m from load ≡ carried
-unfolding carrying
-carrying-past carried m from load h = rw (le-ltb (pairAt m from) pairs h)
 
 -- where all words are 0
 pub zero-set : (n m from : ℕ) → setIn (replicate n 0) m from ≡ emptySet

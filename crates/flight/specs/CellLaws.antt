@@ -3,16 +3,16 @@
 use Prim.Native.Nat.{ℕ, zero, suc, _+_, _*_, _-_, _/_, _^_, _<_, _≤_, min}
 use mathlib.Core.Path.{_≡_, refl, sym, ap, _∙_}
 use mathlib.Core.Logic.{_⊎_, inl, inr}
-use mathlib.Core.Bool.{Bool, true, false, not, _&&_, _||_, or-assoc, and-true}
+use mathlib.Core.Bool.{Bool, true, false, not, _&&_, _||_, or-assoc}
 use native.Mathlib.Omega.{arith}
 use native.Mathlib.Nat.{one-mul}
 use lib.Dec.{eqb, ltb, lit<, leb·suc-suc}
 use lib.Bits.{bitOr, and-step, and-le-l, or-lt, or-shifted-r}
 use lib.Pow.{pow-pos, pow-mono, ones-lt}
-use borrow.Author.Tests.{eq-eqb, ne-eqb, eqb-true, lt-ltb, le-ltb, ltb-true}
+use borrow.Author.Tests.{eq-eqb, eqb-true, lt-ltb, le-ltb, ltb-true}
 use Rattle.sets.specs.Below.{one}
 use Rattle.sets.specs.Masks.{hasBit}
-use Rattle.sets.specs.MaskLaws.{has-bit-low, has-bit-half, has-bit-zero, has-bit-pow, has-bit-or, bits-ext}
+use Rattle.sets.specs.MaskLaws.{has-bit-low, has-bit-half, has-bit-zero, has-bit-or, bits-ext}
 use Rattle.sets.specs.Truth.{test, both-ways, and-left, and-right, and-intro}
 use Rattle.sets.specs.Sets.{capacity}
 use Rattle.site.specs.Sites.{sites}
@@ -38,12 +38,6 @@ has-bit-less w r (suc k) =
     let e : less w r / 2 ≡ less (w / 2) (r / 2) = omega (arith, and-step w r, and-le-l (w / 2) (r / 2)) in
     has-bit-half (less w r) k ∙ ap (λ (x : ℕ). hasBit x k) e ∙ has-bit-less (w / 2) (r / 2) k
     ∙ sym (rw (has-bit-half w k, has-bit-half r k))
-
--- a site from n on is in no mask of n sites
-pub less-above : (n w site : ℕ) → w < 2 ^ n → n ≤ site → less w (2 ^ site) ≡ w
-less-above n w site small above =
-    bits-ext n (less w (2 ^ site)) w (omega arith) small
-    (λ k h. has-bit-less w (2 ^ site) k ∙ rw (has-bit-pow site k, ne-eqb k site (omega arith)) (and-true (hasBit w k)))
 
 -- the mask of the sites below n
 pub has-bit-ones : (n k : ℕ) → hasBit (2 ^ n - 1) k ≡ ltb k n

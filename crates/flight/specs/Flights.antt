@@ -186,20 +186,11 @@ unfoldable pub nothingComes : List ℕ → ℕ → Bool
 nothingComes [] up = true
 nothingComes (mask ∷ l) up = eqb (bitAnd mask up) 0 && nothingComes l up
 
--- ---- flights to begin with, or written out cell by cell
+-- ---- a flight to begin with
 
 -- nothing in flight
 abbrev pub emptyFlight : Flight
 emptyFlight = flightOf (replicate cells 0) (replicate pairs 0) (replicate (words * pairs) 0)
-
-abbrev pub withReceivers : Flight → ℕ → ℕ → ℕ → ℕ → Flight
-withReceivers flight form m from receivers = flightOf (writeAt cells (flight .masks) (cellAt form m from) receivers) (flight .good) (flight .carried)
-
-abbrev pub withGood : Flight → ℕ → ℕ → ℕ → Flight
-withGood flight m from receivers = flightOf (flight .masks) (writeAt pairs (flight .good) (pairAt m from) receivers) (flight .carried)
-
-abbrev pub withCarried : Flight → ℕ → ℕ → Set → Flight
-withCarried flight m from load = flightOf (flight .masks) (flight .good) (carrying (flight .carried) m from load)
 
 -- ---- what holds of every value of the type
 

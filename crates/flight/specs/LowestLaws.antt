@@ -1,24 +1,22 @@
--- What the search finds in a flight: nothing, exactly where no message in flight is for a site of the mask; else a message that is in flight, to
+-- What the search finds in a flight: nothing, and then no message in flight is for a site of the mask; else a message that is in flight, to
 -- a site of the mask, with none such lower by form, posting, from, to. Rests on Flights, SearchLaws and CellLaws. Assumes nothing.
-use Prim.Native.Nat.{ℕ, suc, _+_, _*_, _/_, _%_, _^_, _<_}
-use mathlib.Core.Path.{_≡_, refl, sym, ap, _∙_}
+use Prim.Native.Nat.{ℕ, _+_, _*_, _/_, _%_, _<_}
+use mathlib.Core.Path.{_≡_, sym, ap, _∙_}
 use mathlib.Core.Logic.{_⊎_, inl, inr}
 use mathlib.Core.Bool.{Bool, true, false, _&&_, _||_}
-use mathlib.Core.List.{List, [], _∷_}
+use mathlib.Core.List.{List}
 use native.Mathlib.Omega.{arith}
 use lib.Dec.{eqb, ltb}
 use lib.ListN.{length, getD, take}
-use lib.Bits.{bitAnd, and-le-r}
-use borrow.Author.Tests.{eq-eqb, eqb-true, lt-ltb, ltb-true}
+use borrow.Author.Tests.{eqb-true, lt-ltb, ltb-true}
 use Rattle.sets.specs.Masks.{hasBit}
-use Rattle.sets.specs.MaskLaws.{has-bit-zero, has-bit-and, bits-ext}
 use Rattle.sets.specs.Truth.{never, not-so, and-left, and-right, and-intro, or-cases}
 use Rattle.sets.specs.Sets.{capacity}
 use Rattle.site.specs.Sites.{sites}
 use Rattle.site.specs.Sends.{forms}
 use Rattle.flight.specs.declared.Flight.{Flight}
 use Rattle.flight.specs.declared.Found.the-variants.{Nothing, Message}
-use Rattle.flight.specs.Flights.{pairs, cells, isCell, cellAt, receiversIn, messageIn, inFlight, messageAt, lowestFrom, lowest, nothingComes, Shape}
+use Rattle.flight.specs.Flights.{pairs, cells, isCell, cellAt, receiversIn, messageIn, inFlight, messageAt, lowestFrom, lowest, Shape}
 use Rattle.flight.specs.CellLaws.{range-cell, cell-in}
 use Rattle.flight.specs.FlightLaws.{in-flight-range}
 use Rattle.flight.specs.SearchLaws.{all-cells, comesAt, CellFound, none, cell, cell-found}
@@ -70,23 +68,6 @@ lower-place g y c d f x a b hy hc hx ha t = form (or-cases (ltb g f) (eqb g f &&
     form (inr u) =
         let r = ltb y x || eqb y x && (ltb c a || eqb c a && ltb d b) in
         posting (eqb-true g f (and-left (eqb g f) r u)) (or-cases (ltb y x) (eqb y x && (ltb c a || eqb c a && ltb d b)) (and-right (eqb g f) r u))
-
--- ---- nothing comes, by lists
-
-comes-none : (k : ℕ) (l : List ℕ) (up : ℕ) → nothingComes l up ≡ true → lowestFrom k l up ≡ Nothing
-unfolding nothingComes lowestFrom
-comes-none k [] up t = refl
-comes-none k (mask ∷ l) up t =
-    rw (and-left (eqb (bitAnd mask up) 0) (nothingComes l up) t) (comes-none (suc k) l up (and-right (eqb (bitAnd mask up) 0) (nothingComes l up) t))
-
-none-comes : (l : List ℕ) (up : ℕ) → up < 2 ^ sites → ((j b : ℕ) → b < sites → comesAt l up j b ≡ false) → nothingComes l up ≡ true
-unfolding nothingComes
-none-comes [] up h rest = refl
-none-comes (mask ∷ l) up h rest =
-    let z : bitAnd mask up ≡ 0
-    = bits-ext sites (bitAnd mask up) 0 (omega (arith, and-le-r mask up)) (omega arith)
-    (λ b v. has-bit-and mask up b ∙ rest 0 b v ∙ sym (has-bit-zero b)) in
-    rw (eq-eqb (bitAnd mask up) 0 z) (none-comes l up h (λ j b v. rest (suc j) b v))
 
 module _ (flight : Flight) (s : Shape flight) (up : ℕ) where
   -- the arrays have no cell past the last
@@ -173,25 +154,4 @@ module _ (flight : Flight) (s : Shape flight) (up : ℕ) where
       go (none n rest) =
           let (hf, hx, ha, hb) = in-flight-range flight f x a b t in
           not-so (hasBit up b) (λ u. never (bit-in-flight f x a b t u) (rest (cellAt f x a) b hb))
-      go (cell j d hj hb n v rest) = absurd (never-both (sym e ∙ all-masks ∙ n))
-
-  pub nothing-lowest : ((f x a b : ℕ) → inFlight flight f x a b ≡ true → hasBit up b ≡ false) → lowest flight up ≡ Nothing
-  nothing-lowest h = go search-all
-    where
-      go : Search → lowest flight up ≡ Nothing
-      go (none n rest) = all-masks ∙ n
-      go (cell j d hj hb n v rest) =
-          let l = cell-lowest j d hj hb v rest in
-          absurd (never (l .comes) (h (j / pairs) (j / sites % capacity) (j % sites) d (l .flies)))
-
-  -- ---- nothing comes
-
-  pub comes-nothing : nothingComes (flight .masks) up ≡ true → lowest flight up ≡ Nothing
-  comes-nothing t = all-masks ∙ comes-none 0 (flight .masks) up t
-
-  pub nothing-comes : up < 2 ^ sites → lowest flight up ≡ Nothing → nothingComes (flight .masks) up ≡ true
-  nothing-comes h e = go search-all
-    where
-      go : Search → nothingComes (flight .masks) up ≡ true
-      go (none n rest) = none-comes (flight .masks) up h rest
       go (cell j d hj hb n v rest) = absurd (never-both (sym e ∙ all-masks ∙ n))

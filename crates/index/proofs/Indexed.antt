@@ -1,6 +1,6 @@
--- When the index is right, that C(m) read from it is then conflictSet, and that it stays right.
--- Indexed says it; conflicts-right: C(m); indexed-offer: a posting more; long-indexed, slot-indexed-other: what that leaves; indexed-empty,
--- indexed-begin: nothing offered; indexed-same: other slots changed. Rests on Index, arrays' Slots and posting's conflicts. Assumes nothing.
+-- Where the index is right, C(m) read from it is conflictSet; and the index stays right.
+-- conflicts-right: C(m); indexed-offer: a posting more; long-indexed, slot-indexed-other: what that leaves; indexed-empty: nothing
+-- offered. Rests on Index, arrays' Slots and posting's conflicts. Assumes nothing.
 use Prim.Native.Nat.{ℕ, zero, suc, _+_, _<_, _≤_}
 use mathlib.Core.Path.{_≡_, refl, sym, ap, _∙_}
 use mathlib.Core.Logic.{_⊎_, inl, inr, _≢_}
@@ -9,7 +9,7 @@ use mathlib.Core.List.{List}
 use native.Mathlib.Omega.{arith}
 use native.Mathlib.Decide.{decLt, ℕ-discrete}
 use lib.Dec.{eqb, ltb}
-use lib.ListN.{length, replicate}
+use lib.ListN.{length}
 use lib.Seq.{getD-set-same, getD-set-other}
 use borrow.Author.Tests.{eq-eqb, ne-eqb, lt-ltb, le-ltb, le-leb, lt-leb, eqb-true, eqb-false}
 use Rattle.sets.specs.declared.Set.{Set}
@@ -19,19 +19,12 @@ use Rattle.sets.specs.Sets.{words, capacity, ofWords, emptySet, has, with, Shap
 use Rattle.posting.specs.declared.Posting.{Posting}
 use Rattle.posting.specs.declared.Table.{Table}
 use Rattle.posting.specs.Kinds.{matrixEntry}
-use Rattle.posting.specs.Conflicts.{noPosting, row, offeredBy, offered, emptyTable, tableWith, touches, conflicting, conflict, conflictSet}
+use Rattle.posting.specs.Conflicts.{noPosting, row, offeredBy, offered, tableWith, touches, conflicting, conflict, conflictSet}
 use Rattle.posting.specs.ConflictLaws.{touches-account, shares-fields, has-conflict-set, conflict-set-shape}
 use Rattle.arrays.specs.Layout.{shownSlots, kindSlots, setsLong, kindOf, kindAt, fromAt, intoAt}
 use Rattle.arrays.specs.Arrays.{slotSet, adding, byte}
-use Rattle.arrays.proofs.Slots.{slot-zero, long-added, slot-added-other, has-added, shape-added}
-use Rattle.index.specs.Index.{joinedIf, kindsTo, conflictsIn, indexing}
-
--- the slot of an account and kind holds the postings offered that touch the account and have the kind
-pub record Indexed (ws : List ℕ) (t : Table) : Type 0 where
-  pub shape : (a k : ℕ) → a < 16 → k < 4 → Shape (slotSet ws (kindOf a k))
-  pub lists :
-      (a k x : ℕ) → a < 16 → k < 4 → x < capacity
-      → has (slotSet ws (kindOf a k)) x ≡ (offered t x && (touches (row t x) a && eqb (row t x .kind) k))
+use Rattle.arrays.proofs.Slots.{long-added, slot-added-other, has-added, shape-added}
+use Rattle.index.specs.Index.{joinedIf, kindsTo, conflictsIn, indexing, Indexed}
 
 -- ---- truth values
 
@@ -312,7 +305,7 @@ module _ (ws : List ℕ) (m kind a b : ℕ) where
       apart c h (inl l) = λ e. absurd (omega arith)
       apart c h (inr l) = λ e. absurd (omega arith)
 
--- ---- nothing offered; other slots changed
+-- ---- nothing offered
 
 pub indexed-empty :
     (ws : List ℕ) (t : Table) → ((a k : ℕ) → a < 16 → k < 4 → slotSet ws (kindOf a k) ≡ emptySet) → t .count ≡ 0 → Indexed ws t
@@ -321,15 +314,4 @@ indexed-empty ws t e none =
     record {
       shape = λ a k ha hk. rw (e a k ha hk) (empty-shape words);
       lists = λ a k x ha hk hx. rw (e a k ha hk, le-ltb x (t .count) (omega arith)) (member-empty words x);
-    }
-
-pub indexed-begin : Indexed (replicate setsLong 0) emptyTable
-indexed-begin = indexed-empty (replicate setsLong 0) emptyTable (λ a k ha hk. slot-zero setsLong (kindOf a k)) refl
-
-pub indexed-same :
-    {t : Table} (ws ws' : List ℕ) → ((a k : ℕ) → a < 16 → k < 4 → slotSet ws' (kindOf a k) ≡ slotSet ws (kindOf a k)) → Indexed ws t → Indexed ws' t
-indexed-same ws ws' e right =
-    record {
-      shape = λ a k ha hk. rw (e a k ha hk) (right .shape a k ha hk);
-      lists = λ a k x ha hk hx. rw (e a k ha hk) (right .lists a k x ha hk hx);
     }

@@ -1,12 +1,15 @@
--- The index of the postings offered, by account and kind, and C(m) read from it.
--- Rests on arrays, whose slots behind those of the board hold it; on posting and sets. proofs/Indexed says when it is right, and that C(m) is then conflictSet.
-use Prim.Native.Nat.{ℕ, zero, suc}
-use mathlib.Core.Bool.{Bool, cond}
+-- The index of the postings offered, by account and kind; C(m) read from it; and when it is right.
+-- Rests on arrays, whose slots behind those of the board hold it; on posting and sets. That C(m) is conflictSet where the index is right is proved in proofs/Indexed.
+use Prim.Native.Nat.{ℕ, zero, suc, _<_}
+use mathlib.Core.Path.{_≡_}
+use mathlib.Core.Bool.{Bool, cond, _&&_}
 use mathlib.Core.List.{List}
-use lib.Dec.{leb}
+use lib.Dec.{eqb, leb}
 use Rattle.sets.specs.declared.Set.{Set}
-use Rattle.sets.specs.Sets.{emptySet, with, join}
+use Rattle.sets.specs.Sets.{capacity, emptySet, has, with, join, Shape}
+use Rattle.posting.specs.declared.Table.{Table}
 use Rattle.posting.specs.Kinds.{accounts, matrixEntry}
+use Rattle.posting.specs.Conflicts.{row, offered, touches}
 use Rattle.arrays.specs.Layout.{kindOf, kindAt, fromAt, intoAt}
 use Rattle.arrays.specs.Arrays.{slotSet, adding, byte}
 
@@ -28,3 +31,10 @@ conflictsIn ws bs matrix m = with (kindsTo ws matrix (byte bs (kindAt m)) (byte 
 -- posting m, of a kind and accounts a and b, joins the index
 unfoldable pub indexing : List ℕ → ℕ → ℕ → ℕ → ℕ → List ℕ
 indexing ws m kind a b = adding (adding ws (kindOf a kind) m) (kindOf b kind) m
+
+-- The index is right: the slot of an account and kind holds the postings offered that touch the account and have the kind
+pub record Indexed (ws : List ℕ) (t : Table) : Type 0 where
+  pub shape : (a k : ℕ) → a < 16 → k < 4 → Shape (slotSet ws (kindOf a k))
+  pub lists :
+      (a k x : ℕ) → a < 16 → k < 4 → x < capacity
+      → has (slotSet ws (kindOf a k)) x ≡ (offered t x && (touches (row t x) a && eqb (row t x .kind) k))

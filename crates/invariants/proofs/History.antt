@@ -1,24 +1,22 @@
 -- Of the list and the state: the table's rows are the accepted offers, the log is the list of accepted orders, a site's place is the
 -- number of its accepted reads, and a site is down exactly if an accepted crash named it or an accepted call was cut at it.
 -- Rests on Judged, CarriedOut and Room. Assumes nothing.
-use Prim.Native.Nat.{ℕ, zero, suc, _+_, _<_, _≤_}
+use Prim.Native.Nat.{ℕ, _+_, _<_, _≤_}
 use mathlib.Core.Path.{_≡_, refl, sym, ap, _∙_}
-use mathlib.Core.Logic.{_⊎_, inl, inr, _≢_}
+use mathlib.Core.Logic.{inl, inr, _≢_}
 use mathlib.Core.Bool.{Bool, true, false, cond, _&&_, _||_, or-false, or-assoc}
 use mathlib.Core.List.{List, [], _∷_, _++_, append-nil}
 use native.Mathlib.Omega.{arith}
-use native.Mathlib.Numerals.{add-one}
 use native.Mathlib.Decide.{ℕ-discrete}
 use lib.Dec.{eqb, leb}
 use lib.Count.{ones}
 use lib.ListN.{length, getD, length-append, List·getD-append}
 use lib.Seq.{getD-append-seam}
-use borrow.Author.Tests.{eq-eqb, ne-eqb, eqb-true}
-use Rattle.sets.specs.Truth.{test, never, not-so}
+use borrow.Author.Tests.{eq-eqb, ne-eqb}
+use Rattle.sets.specs.Truth.{test, not-so}
 use Rattle.sets.specs.Masks.{hasBit}
 use Rattle.sets.specs.MaskLaws.{has-bit-set}
-use Rattle.sets.specs.Numbers.{listed}
-use Rattle.sets.specs.Sets.{capacity, has}
+use Rattle.sets.specs.Sets.{has}
 use Rattle.posting.specs.declared.Posting.{Posting}
 use Rattle.posting.specs.declared.Table.{Table}
 use Rattle.posting.specs.Conflicts.{noPosting, row, tableWith}
@@ -42,12 +40,11 @@ use Rattle.steps.specs.declared.Call.the-variants.{Offer, Receive, Order, Read,
 use Rattle.machine.specs.Boards.{siteAt, tallyAt, isDown, boardTable, boardFlight}
 use Rattle.steps.specs.Causes.{isCut}
 use Rattle.machine.specs.Calls.{carriedOut, receiptOf}
-use Rattle.machine.specs.Runs.{taking, accepted, running}
-use Rattle.machine.specs.History.{acceptedCalls, offers, orders, reads, bringsDown, broughtDown}
+use Rattle.machine.specs.Runs.{taking, accepted}
+use Rattle.machine.specs.History.{offers, orders, reads, bringsDown, broughtDown}
 use Rattle.machine.proofs.Shapes.{BoardShape}
-use Rattle.machine.proofs.SoundFacts.{Sound}
 use Rattle.machine.proofs.SoundTest.{sound-facts}
-use Rattle.invariants.proofs.Judged.{Acts, OfferTaken, ReceiptTaken, OrderTaken, ReadTaken, CrashTaken, offer-taken, receipt-taken, order-taken, read-taken, crash-taken, refused-same, readStep, offerStep}
+use Rattle.invariants.proofs.Judged.{OfferTaken, ReceiptTaken, OrderTaken, ReadTaken, CrashTaken, offer-taken, receipt-taken, order-taken, read-taken, crash-taken, refused-same, readStep, offerStep}
 use Rattle.invariants.proofs.CarriedOut.{siteAfter, out-setup, out-table, out-log, out-down, out-site, out-site-other}
 use Rattle.invariants.proofs.Grow.{table-grows, new-row}
 use Rattle.invariants.proofs.Room.{record-room}
@@ -143,14 +140,6 @@ pub record Done (b : Board) (done : List Call) : Type 0 where
   pub log : numbersOf (b .log) ≡ orders done
   pub places : (p : ℕ) → p < b .setup .n → siteAt b p .place ≡ reads p done
   pub downs : (p : ℕ) → p < b .setup .n → isDown b p ≡ broughtDown p done
-
--- a step at p, whole or cut, that leaves the table as it is
-module _ (b : Board) (shape : BoardShape b) (few : b .setup .n ≤ sites) (p m : ℕ) (step : Step) (cut : Cut) (lp : p < b .setup .n) where
-  out-place : (q : ℕ) → q < b .setup .n → siteAt (carriedOut b p m step cut) q .place ≡ cond (eqb q p) (step .site .place) (siteAt b q .place)
-  out-place q lq = elim (ℕ-discrete q p) [
-    | yes e ↦ rw (eq-eqb q p e, e, out-site b p m step cut (omega (arith, shape .sites-long))) (after-place step cut)
-    | no d ↦ rw (ne-eqb q p d, out-site-other b p m step cut q d)
-  ]
 
 pub out-is-down : (b : Board) (p m : ℕ) (step : Step) (cut : Cut) (q : ℕ) → isDown (carriedOut b p m step cut) q ≡ (isDown b q || isCut cut && eqb q p)
 out-is-down b p m step Whole q = rw (out-down b p m step Whole) (sym (or-false (isDown b q)))

@@ -1,3 +1,5 @@
+-- What every call keeps of a board: sound, in shape, blank where nothing is live; what a list has done; and when a board is quiet.
+-- Rests on machine.
 pub mod SiteSound
 pub mod StepSound
 pub mod Judged

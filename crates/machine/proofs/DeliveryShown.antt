@@ -1,7 +1,7 @@
 -- Delivery on the flat arrays: the record of one site changes as site's delivering says, what each record has stays right, all else stays.
 -- In order: Redelivered and what follows of it: delivered-site, delivered-tally, delivered-down, delivered-own, delivered-elsewhere; then one
--- posting, a list of postings, a log entry: one-delivered, all-delivered, entry-delivered; changes-right; the same law by law. Rests on View, Local and
--- Stores, on arrays' Slots. Assumes nothing.
+-- posting, a list of postings, a log entry: one-delivered, all-delivered, entry-delivered; changes-right. Rests on View, Local and Stores,
+-- on arrays' Slots. Assumes nothing.
 use Prim.Native.Nat.{ℕ, zero, suc, _+_, _*_, _<_, _≤_}
 use mathlib.Core.Path.{_≡_, refl, sym, ap, ap₂, _∙_}
 use mathlib.Core.Logic.{_⊎_, inl, inr, _≢_}
@@ -357,42 +357,3 @@ pub changes-right :
     → change (localOf a p m) .site .delivered ≡ recordOf a p → Right d
 changes-right {p} {m} {a} {d} r x same =
     right-local r (x .elsewhere) (x .long) (x .have) (sym (site-record d p) ∙ ap (λ (l : Local). l .site .delivered) (x .own) ∙ same)
-
--- ---- the same, law by law
-
-module _ (a : Arrays) (ok : Right a) (p : ℕ) (hp : p < sites) where
-  module _ (m : ℕ) (hm : m < capacity) where
-    abbrev by-one : Laid
-    by-one = delivered (laidOf a) p m
-
-    abbrev by-entry : Laid
-    by-entry = deliveredEntry (laidOf a) p m
-
-    pub one-right : Right (relaid a by-one)
-    one-right = one-delivered a ok p hp m hm .right
-
-    pub one-site : siteOf (relaid a by-one) p ≡ siteDelivered (siteOf a p) (delivering (recordOf a p) m)
-    one-site = delivered-site a p hp by-one (delivering (recordOf a p) m) (one-delivered a ok p hp m hm)
-
-    pub one-elsewhere : (x : ℕ) → Elsewhere p x a (relaid a by-one)
-    one-elsewhere = delivered-elsewhere a p hp by-one (delivering (recordOf a p) m) (one-delivered a ok p hp m hm)
-
-    pub entry-right : Right (relaid a by-entry)
-    entry-right = entry-delivered a ok p hp m hm .right
-
-    pub entry-site : siteOf (relaid a by-entry) p ≡ siteDelivered (siteOf a p) (deliveringEntry (recordOf a p) (slotSet (a .sets) (entryOf m)) m)
-    entry-site = delivered-site a p hp by-entry (deliveringEntry (recordOf a p) (slotSet (a .sets) (entryOf m)) m) (entry-delivered a ok p hp m hm)
-
-    pub entry-elsewhere : (x : ℕ) → Elsewhere p x a (relaid a by-entry)
-    entry-elsewhere =
-        delivered-elsewhere a p hp by-entry (deliveringEntry (recordOf a p) (slotSet (a .sets) (entryOf m)) m) (entry-delivered a ok p hp m hm)
-
-  module _ (l : List ℕ) (h : AllPostings l) where
-    pub all-right : Right (relaid a (deliveredAll (laidOf a) p l))
-    all-right = all-delivered a ok p hp l h .right
-
-    pub all-site : siteOf (relaid a (deliveredAll (laidOf a) p l)) p ≡ siteDelivered (siteOf a p) (deliveringAll (recordOf a p) l)
-    all-site = delivered-site a p hp (deliveredAll (laidOf a) p l) (deliveringAll (recordOf a p) l) (all-delivered a ok p hp l h)
-
-    pub all-elsewhere : (x : ℕ) → Elsewhere p x a (relaid a (deliveredAll (laidOf a) p l))
-    all-elsewhere = delivered-elsewhere a p hp (deliveredAll (laidOf a) p l) (deliveringAll (recordOf a p) l) (all-delivered a ok p hp l h)

@@ -3,12 +3,12 @@
 use Prim.Native.Nat.{ℕ, _*_, _<_, _≤_}
 use mathlib.Core.Path.{_≡_}
 use mathlib.Core.Logic.{inl, inr}
-use mathlib.Core.Bool.{Bool, true, _&&_, _||_}
+use mathlib.Core.Bool.{true, _&&_}
 use native.Mathlib.Omega.{arith}
 use lib.Dec.{ltb, leb}
 use lib.ListN.{length}
 use borrow.Author.Tests.{ltb-true, leb-true, leb-false}
-use Rattle.sets.specs.Truth.{test, and-left, and-right, or-neither}
+use Rattle.sets.specs.Truth.{test, and-left, and-right}
 use Rattle.sets.specs.Masks.{hasBit}
 use Rattle.sets.specs.Sets.{capacity}
 use Rattle.posting.specs.declared.Posting.{Posting}
@@ -18,12 +18,11 @@ use Rattle.site.specs.declared.Setup.{Setup}
 use Rattle.site.specs.Sites.{sites}
 use Rattle.site.specs.Sends.{forms}
 use Rattle.site.specs.Steps.{ownerOf}
-use Rattle.flight.specs.declared.Flight.{Flight}
 use Rattle.flight.specs.Flights.{cells, isPair, isCell, receiversIn, messageIn, inFlight}
 use Rattle.machine.specs.declared.Board.{Board}
 use Rattle.machine.specs.Boards.{loggedAt}
 use Rattle.machine.specs.Soundness.{setupOk, isSound}
-use Rattle.steps.specs.Causes.{firstCause, siteCauses, messageCauses, offerCauses}
+use Rattle.steps.specs.Causes.{firstCause, siteCauses, offerCauses}
 use Rattle.machine.proofs.SoundFacts.{of-all, Sound}
 use Rattle.machine.proofs.SoundTest.{sound-facts}
 
@@ -40,11 +39,6 @@ pub record Placed (form m from to : ℕ) : Type 0 where
   pub posting-below : m < capacity
   pub from-below : from < sites
   pub to-below : to < sites
-
--- the flight's array has the message: the flight has it
-pub message-in : (flight : Flight) (form m from to : ℕ) (t : Bool) → messageIn (flight .masks) form m from to ≡ t → inFlight flight form m from to ≡ t
-unfolding inFlight
-message-in flight form m from to t e = e
 
 pub message-placed : (b : Board) (form m from to : ℕ) → inFlight (b .flight) form m from to ≡ true → Placed form m from to
 unfolding inFlight messageIn
@@ -92,13 +86,6 @@ module _ (n down : ℕ) where
     | inr f ↦ leb-false n p f
   ]
 
-  pub message-there : (from to why : ℕ) → why ≡ firstCause (messageCauses n down from to) → why ≡ 0 → (from < n) × (to < n)
-  unfolding firstCause
-  message-there from to why e z = elim (test (leb n from || leb n to)) [
-    | inl t ↦ let k : why ≡ 7 = rw t at e in absurd (omega (arith, k, z))
-    | inr f ↦ (leb-false n from (or-neither (leb n from) (leb n to) f .0), leb-false n to (or-neither (leb n from) (leb n to) f .1))
-  ]
-
 pub offer-room : (posting : Posting) (count why : ℕ) → why ≡ firstCause (offerCauses posting count) → why ≡ 0 → count < capacity
 unfolding firstCause
 offer-room posting count why e z = elim (test (fieldsOk posting)) [
@@ -108,11 +95,3 @@ offer-room posting count why e z = elim (test (fieldsOk posting)) [
   ]
   | inr f ↦ let k : why ≡ 9 = rw f at e in absurd (omega (arith, k, z))
 ]
-
--- a site that may act has a place
-pub acting : (b : Board) → isSound b ≡ true → length (b .flight .masks) ≡ cells → (p why : ℕ)
-    → why ≡ firstCause (siteCauses (b .setup .n) (b .down) p) → why ≡ 0 → p < 7
-acting b sound long p why tested z =
-    let sites-few = few b long sound in
-    let there = site-there (b .setup .n) (b .down) p why tested z in
-    omega (arith, there, sites-few)

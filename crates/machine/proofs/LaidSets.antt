@@ -6,7 +6,7 @@ use mathlib.Core.Logic.{_⊎_, inl, inr, _≢_}
 use mathlib.Core.List.{List}
 use native.Mathlib.Omega.{arith}
 use native.Mathlib.Numerals.{add-one}
-use lib.ListN.{length, getD, set, replicate, length-replicate}
+use lib.ListN.{length, getD, replicate, length-replicate}
 use lib.Seq.{set-getD}
 use Rattle.sets.specs.declared.Set.{Set}
 use Rattle.sets.specs.WordLaws.{collect-shape}
@@ -21,8 +21,8 @@ use Rattle.soundness.specs.Parts.{has-set-of}
 use Rattle.arrays.specs.Layout.{poolSlot, unionOf, entryOf, kindOf, haveOf, slots, shownSlots, kindSlots, setsLong}
 use Rattle.arrays.specs.Arrays.{slotSet, storing, hasIn}
 use Rattle.arrays.proofs.Slots.{part-ext, slot-zero, slot-other, slot-same, long-stored, has-slot}
-use Rattle.index.specs.Index.{indexing}
-use Rattle.index.proofs.Indexed.{Indexed, indexed-offer, indexed-empty, long-indexed, slot-indexed-other}
+use Rattle.index.specs.Index.{indexing, Indexed}
+use Rattle.index.proofs.Indexed.{indexed-offer, indexed-empty, long-indexed, slot-indexed-other}
 use Rattle.machine.specs.declared.Board.{Board}
 use Rattle.machine.specs.Boards.{siteAt, tallyAt, entryAt}
 use Rattle.machine.specs.Laying.{upTo, setNo, pairNo, siteSets, postingSets, recordSet, sitesSets, haveSets, postingsSets, indexedTo, Ranged, layingSets}

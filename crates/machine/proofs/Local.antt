@@ -29,7 +29,7 @@ use Rattle.steps.specs.ByMask.{enters, entered}
 use Rattle.arrays.specs.Layout.{poolSlot, entryOf, kindOf, haveOf, setsLong, countsLong, bytesLong, downAt}
 use Rattle.arrays.specs.Arrays.{Arrays, slotSet, hasIn, byte}
 use Rattle.arrays.proofs.Slots.{has-slot}
-use Rattle.index.proofs.Indexed.{Indexed}
+use Rattle.index.specs.Index.{Indexed}
 use Rattle.flat.specs.Flat.{Flat, flat, cutCause}
 use Rattle.machine.specs.declared.Board.{Board}
 use Rattle.machine.specs.Boards.{siteAt, tallyAt, entryAt, boardFlight, boardDown}

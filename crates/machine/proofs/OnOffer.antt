@@ -1,40 +1,36 @@
 -- An offer on the arrays shows the posting in the table and its FIRSTs sent, and keeps the index right.
 -- Rests on Tables and Placed, on the laws of the index. Assumes nothing.
-use Prim.Native.Nat.{ℕ, _+_, _^_, _<_, _≤_}
+use Prim.Native.Nat.{ℕ, _<_}
 use mathlib.Core.Path.{_≡_, refl, sym, ap, _∙_}
-use mathlib.Core.Logic.{_≢_, inl, inr}
-use mathlib.Core.Bool.{Bool, true, false}
+use mathlib.Core.Logic.{inl, inr}
+use mathlib.Core.Bool.{false}
 use mathlib.Core.List.{List}
 use native.Mathlib.Omega.{arith}
 use lib.ListN.{length, getD, set, length-set}
 use lib.Seq.{set-getD}
 use Rattle.sets.specs.declared.Set.{Set}
-use Rattle.sets.specs.Words.{insertIf}
-use Rattle.sets.specs.Sets.{capacity, has, withIf}
+use Rattle.sets.specs.Sets.{capacity, has}
 use Rattle.posting.specs.declared.Posting.{Posting}
 use Rattle.posting.specs.declared.Table.{Table}
 use Rattle.posting.specs.declared.Record.{Record}
 use Rattle.posting.specs.Conflicts.{tableWith}
 use Rattle.posting.specs.Records.{contains}
-use Rattle.books.specs.Books.{tabulate}
 use Rattle.books.proofs.Lists.{length-tabulate}
 use Rattle.masks.specs.SiteMasks.{everySite}
 use Rattle.site.specs.declared.Setup.{Setup}
-use Rattle.site.specs.declared.Site.{Site}
 use Rattle.site.specs.declared.Stepped.{Stepped}
 use Rattle.site.specs.Sites.{sites, noSite, noTally, noSet}
 use Rattle.site.specs.Sends.{FIRST}
 use Rattle.site.specs.ByMask.{stepOf, offerByMask}
 use Rattle.site.proofs.Fits.{offer-fits}
-use Rattle.flight.specs.Flights.{cells, flightOf, sendingTo}
+use Rattle.flight.specs.Flights.{flightOf, sendingTo}
 use Rattle.steps.specs.declared.Cut.{Cut}
-use Rattle.steps.specs.declared.Cut.the-variants.{Whole, After}
-use Rattle.steps.specs.Cuts.{sitesTo, settledTo, downAfter}
-use Rattle.arrays.specs.Layout.{shownSlots, kindSlots, seenOf, heldOf, steppedOf, finishedOf, gotOf, poolSlot, unionOf, entryOf, haveOf, countAt, downAt, ownerAt, kindAt, fromAt, intoAt}
+use Rattle.steps.specs.Cuts.{sitesTo, downAfter}
+use Rattle.arrays.specs.Layout.{shownSlots, seenOf, heldOf, steppedOf, finishedOf, gotOf, poolSlot, unionOf, entryOf, haveOf, countAt, downAt, ownerAt, kindAt, fromAt, intoAt}
 use Rattle.arrays.specs.Arrays.{Arrays, withSets, withBytes, withMasks, slotSet, hasIn, byte, marked}
 use Rattle.arrays.proofs.Slots.{has-slot}
-use Rattle.index.specs.Index.{indexing}
-use Rattle.index.proofs.Indexed.{Indexed, indexed-offer, long-indexed, slot-indexed-other}
+use Rattle.index.specs.Index.{indexing, Indexed}
+use Rattle.index.proofs.Indexed.{indexed-offer, long-indexed, slot-indexed-other}
 use Rattle.flat.specs.Flat.{entered}
 use Rattle.machine.specs.declared.Board.{Board}
 use Rattle.machine.specs.Boards.{siteAt, tallyAt, entryAt, boardDown, boardTable, boardFlight}
@@ -106,10 +102,6 @@ module _ (setup : Setup) (a : Arrays) (ok : Right a) (p : Posting) (room : getD 
   rows-long : length (tableOf a .rows) ≡ capacity
   unfolding tableOf
   rows-long = length-tabulate capacity _
-
-  table-count : tableOf a .count ≡ m
-  unfolding tableOf
-  table-count = refl
 
   index-right : Indexed (indexed .sets) (tableOf indexed)
   unfolding tableOf

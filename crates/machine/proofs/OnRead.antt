@@ -4,7 +4,7 @@ use Prim.Native.Nat.{ℕ, _+_, _<_}
 use mathlib.Core.Path.{_≡_, refl, sym, ap, _∙_}
 use lib.ListN.{getD, set}
 use lib.Seq.{set-getD}
-use borrow.Author.Tests.{eq-eqb, lt-ltb, lt-leb}
+use borrow.Author.Tests.{lt-ltb}
 use Rattle.sets.specs.declared.Set.{Set}
 use Rattle.sets.specs.Sets.{capacity}
 use Rattle.posting.specs.declared.Record.{Record}
@@ -17,10 +17,10 @@ use Rattle.flight.specs.Flights.{flightOf}
 use Rattle.steps.specs.declared.Cut.{Cut}
 use Rattle.steps.specs.declared.Cut.the-variants.{Whole, After}
 use Rattle.steps.specs.Cuts.{entryTo, downAfter}
-use Rattle.arrays.specs.Layout.{entryOf, placeAt, loggedAt, downAt, logAt}
+use Rattle.arrays.specs.Layout.{entryOf, placeAt, downAt}
 use Rattle.arrays.specs.Arrays.{Arrays, withCounts, withBytes, slotSet, byte, marked}
 use Rattle.delivery.specs.Delivery.{deliveredEntry}
-use Rattle.flat.specs.Flat.{flat, cutCause, siteCause, entryDeliveredTo, flatRead}
+use Rattle.flat.specs.Flat.{entryDeliveredTo}
 use Rattle.machine.specs.declared.Board.{Board}
 use Rattle.machine.specs.Boards.{siteAt, tallyAt, entryAt}
 use Rattle.machine.specs.Calls.{carriedOut}
@@ -116,13 +116,6 @@ module _ (a : Arrays) (ok : Right a) (p m : ℕ) (hp : p < sites) (hm : m < capa
 
   moved-right : Right (movedOn a p cut)
   moved-right = changes-right ok moves (site-record a p)
-
-  -- what a read leaves that is not refused
-  pub read-done :
-      (setup : Setup) → m ≡ byte (a .bytes) (logAt place) → siteCause setup (a .bytes) p ≡ 0 → place < getD (a .counts) loggedAt 0
-      → cutCause setup (a .bytes) 0 cut ≡ 0 → flatRead setup a p cut ≡ flat 0 (hasRead a p m cut)
-  unfolding flatRead
-  read-done setup e s l c = rw (eq-eqb (siteCause setup (a .bytes) p) 0 s, lt-leb (getD (a .counts) loggedAt 0) place l, eq-eqb (cutCause setup (a .bytes) 0 cut) 0 c, e)
 
   pub read-right : Right (hasRead a p m cut)
   read-right = entry-keeps a (movedOn a p cut) p m hp hm moved down (moves .elsewhere) (moves .own) moved-right cut

@@ -142,11 +142,6 @@ module _ (b : Board) (form m from to : ℕ) where
   abbrev pub receipt : Stepped
   receipt = receiptByMask (b .setup) (b .table) site tally form m from to good carried
 
-  -- from the results of the code's calls
-  pub receipt-law : (s : Stepped) (said : Bool) (load : Set) → s ≡ receiptByMask (b .setup) (b .table) site tally form m from to said load
-      → said ≡ good → load ≡ carried → s ≡ receipt
-  receipt-law s said load e0 e1 e2 = e0 ∙ rw (e1, e2)
-
   abbrev one : Stepped
   one = firstByMask (b .setup) (b .table) site tally m
 

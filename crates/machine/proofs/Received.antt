@@ -10,24 +10,21 @@ use lib.Dec.{leb}
 use lib.ListN.{length}
 use lib.Count.{ones}
 use borrow.Author.Tests.{le-leb, lt-leb}
-use Rattle.sets.specs.Sets.{capacity}
-use Rattle.site.specs.declared.Site.{Site}
 use Rattle.site.specs.declared.Stepped.{Stepped}
 use Rattle.site.specs.Sends.{Step}
 use Rattle.site.specs.Steps.{onEntry}
-use Rattle.site.specs.ByMask.{stepOf, readSite}
-use Rattle.flight.specs.Flights.{cells, inFlight, flightOf, takingFrom, goodTaken, setTaken, takingOut}
+use Rattle.site.specs.ByMask.{stepOf}
+use Rattle.flight.specs.Flights.{cells, inFlight, takingOut}
 use Rattle.machine.specs.declared.Board.{Board}
 use Rattle.steps.specs.declared.Cut.{Cut}
 use Rattle.machine.specs.declared.Outcome.{Outcome}
 use Rattle.machine.specs.Boards.{siteAt, tallyAt, entryAt, loggedAt, boardFlight}
 use Rattle.machine.specs.Soundness.{isSound}
-use Rattle.steps.specs.Cuts.{entryTo, downAfter}
 use Rattle.steps.specs.Causes.{Cause, firstCause, siteCauses, messageCauses, cutCauses}
 use Rattle.machine.specs.Calls.{judged, carriedOut, receiptOf, receiving, reading}
 use Rattle.machine.specs.ByMask.{refusing, taken}
 use Rattle.machine.proofs.Causes.{unsound, stops, goes-on, passes, one-cause, one-applies, one-passes}
-use Rattle.machine.proofs.Placed.{sends-length, receipt, receipt-fits, receipt-is, boardRead, entry-carried}
+use Rattle.machine.proofs.Placed.{sends-length, receipt, receipt-fits, receipt-is}
 use Rattle.machine.proofs.Facts.{few, message-owner, message-placed}
 
 -- ---- receive
@@ -90,16 +87,6 @@ module _ (b : Board) (sound : isSound b ≡ true) (long : length (b .flight .mas
       receive-done x after e =
           rw (e, is) (sym (first-passed ∙ second-passed ∙ passes b sound received (cuts sends) late (omega arith, (omega arith, tt)) cut-tested x))
 
--- the board after the message is taken out, from the results of the code's calls
-pub taken-law :
-    (b : Board) (form m from to : ℕ) (cut : Cut) (s : Stepped) (masks good carried : List ℕ) (after : Board)
-    → s ≡ receipt b form m from to → masks ≡ takingFrom (b .flight .masks) form m from to
-    → good ≡ goodTaken (b .flight .good) form m from to → carried ≡ setTaken (b .flight .carried) form m from
-    → after ≡ carriedOut (boardFlight b (flightOf masks good carried)) to m (stepOf m s) cut
-    → after ≡ carriedOut (boardFlight b (takingOut (b .flight) form m from to)) to m (stepOf m (receipt b form m from to)) cut
-unfolding takingOut
-taken-law b form m from to cut s masks good carried after e0 e1 e2 e3 e4 = e4 ∙ rw (e3, e2, e1, e0)
-
 -- ---- read
 
 module _ (b : Board) (sound : isSound b ≡ true) (site : ℕ) (cut : Cut)
@@ -150,11 +137,3 @@ module _ (b : Board) (sound : isSound b ≡ true) (site : ℕ) (cut : Cut)
 
       pub read-done : late ≡ 0 → (after : Board) → after ≡ carriedOut b site logged entry-step cut → taken after ≡ reading b site cut
       read-done x after e = rw e (sym (reads-so ∙ site-passed ∙ log-passed ∙ passes b sound has-read no-sends late (omega arith, (omega arith, tt)) tested-cut x))
-
-      module _ (within : b .log .count ≤ capacity) (x : late ≡ 0) (next : Site) (stepped : next ≡ readSite (siteAt b site)) where
-        placed-below : siteAt b site .place < capacity
-        placed-below = omega (arith, within, left)
-
-        pub read-law : site < 7 → (after : Site) (down : ℕ) → after ≡ entryTo next (entryAt b logged) logged cut → down ≡ downAfter (b .down) site cut
-            → taken (boardRead b site after down) ≡ reading b site cut
-        read-law h after down e d = read-done x _ (entry-carried b site logged (entryAt b logged) placed-below h cut next after down stepped e d)

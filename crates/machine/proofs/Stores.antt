@@ -123,16 +123,6 @@ module _ (p m : ℕ) (hp : p < sites) (hm : m < capacity) where
         entry = λ q b n e. n (omega arith);
       }
 
-  pub own-have : Own p m (haveOf p)
-  own-have =
-      record {
-        fits = omega arith;
-        behind = λ u. refl;
-        site = λ q j b n c e. omega arith;
-        union = λ q b n e. omega arith;
-        entry = λ q b n e. omega arith;
-      }
-
 module _ (p m : ℕ) (hp : p < sites) (hm : m < capacity) (a : Arrays) (long : Long a) (s : Set) (size : length (s .words) ≡ words) where
   module _ (slot : ℕ) (o : Own p m slot) where
     abbrev new : Arrays

@@ -3,38 +3,33 @@
 use Prim.Native.Nat.{ℕ, _+_, _<_, _≤_}
 use mathlib.Core.Path.{_≡_, refl, sym, ap, _∙_}
 use mathlib.Core.Logic.{_≢_, _⊎_, inl, inr}
-use mathlib.Core.Bool.{Bool, true, false, cond, _&&_}
-use mathlib.Core.List.{List, [], _∷_, _++_}
+use mathlib.Core.Bool.{false}
+use mathlib.Core.List.{List}
 use native.Mathlib.Omega.{arith}
-use native.Mathlib.Decide.{ℕ-discrete}
 use lib.Dec.{ltb}
 use lib.ListN.{length, getD, set, length-set}
 use lib.Seq.{set-getD, getD-set-same, getD-set-other}
-use borrow.Author.Tests.{lt-ltb, le-ltb, ltb-true, ltb-false}
+use borrow.Author.Tests.{lt-ltb, ltb-true}
 use Rattle.sets.specs.Truth.{test}
 use Rattle.sets.specs.declared.Set.{Set}
 use Rattle.sets.specs.Sets.{words, capacity}
 use Rattle.posting.specs.declared.Posting.{Posting}
-use Rattle.posting.specs.declared.Table.{Table}
 use Rattle.posting.specs.declared.Record.{Record}
 use Rattle.posting.specs.Conflicts.{tableWith, noPosting}
 use Rattle.posting.specs.Records.{append, contains}
-use Rattle.books.specs.Books.{tabulate}
-use Rattle.books.proofs.Lists.{length-tabulate, getD-tabulate, is-tabulate}
 use Rattle.site.specs.declared.Setup.{Setup}
 use Rattle.site.specs.declared.Site.{Site}
 use Rattle.site.specs.Sites.{sites, noSite, noTally, noSet}
-use Rattle.flight.specs.Flights.{cells, wordsFrom}
+use Rattle.flight.specs.Flights.{wordsFrom}
 use Rattle.steps.specs.declared.Cut.{Cut}
 use Rattle.steps.specs.Cuts.{downAfter}
-use Rattle.arrays.specs.Layout.{downAt, ownerAt, kindAt, fromAt, intoAt, talliedAt, hasAt, logAt, heardAt, goodAt, recordAt, bytesLong, countAt, loggedAt, placeAt, deliveredAt, poolSlot, entryOf}
+use Rattle.arrays.specs.Layout.{downAt, ownerAt, kindAt, fromAt, intoAt, talliedAt, hasAt, logAt, heardAt, goodAt, recordAt, countAt, loggedAt, placeAt, deliveredAt, poolSlot, entryOf}
 use Rattle.arrays.specs.Arrays.{Arrays, withSets, withCounts, withBytes, slotSet, storing, byte, marked}
 use Rattle.arrays.proofs.Slots.{part-ext, part-set}
 use Rattle.flat.specs.Flat.{entered, logging}
-use Rattle.machine.specs.declared.Board.{Board}
 use Rattle.machine.specs.Boards.{siteAt, tallyAt, entryAt, boardDown, boardPool, boardTable}
 use Rattle.machine.specs.View.{recordOf, siteOf, tallyOf, rowOf, tableOf, logOf, view, Right}
-use Rattle.machine.proofs.Local.{Local, localOf, Elsewhere, Long, right-long, right-local, site-at, tally-at, entry-at, view-local, shownAfter, table-changed, site-record, indexed-same}
+use Rattle.machine.proofs.Local.{Local, right-long, right-local, site-at, tally-at, entry-at, view-local, shownAfter, table-changed, site-record, indexed-same}
 use Rattle.machine.proofs.Stores.{Changes, localDown, localPool, store-pool}
 use Rattle.machine.proofs.ByteStores.{table-same, store-mark}
 
@@ -96,10 +91,6 @@ module _ (a : Arrays) (k v : ℕ) (listed : Listed k) where
   pub listed-site : (q : ℕ) → siteOf put q ≡ siteOf a q
   unfolding siteOf recordOf
   listed-site q = rw (part-after (heardAt q 0) (omega arith), part-after (goodAt q 0) (omega arith), part-after (recordAt q 0) (omega arith))
-
-  pub listed-record : (q : ℕ) → recordOf put q ≡ recordOf a q
-  unfolding recordOf
-  listed-record q = rw (part-after (recordAt q 0) (omega arith))
 
   apart : (q : ℕ) → talliedAt 0 ≤ q → q < logAt 0 → (k < talliedAt 0) ⊎ (logAt 0 ≤ k) → q ≢ k
   apart q b c (inl h) e = omega arith
@@ -254,10 +245,6 @@ module _ (setup : Setup) (a : Arrays) (ok : Right a) (p : Posting) where
     row-count-left : (i : ℕ) → i ≢ countAt → getD (set (a .counts) countAt (count + 1)) i 0 ≡ getD (a .counts) i 0
     row-count-left i n = getD-set-other (a .counts) countAt i (count + 1) 0 n
 
-    bytes-are : more .bytes ≡ four .bytes
-    unfolding entered
-    bytes-are = refl
-
     four-site : (q : ℕ) → siteOf four q ≡ siteOf a q
     four-site q =
         listed-site three (intoAt count) (p .b) of-into q ∙ listed-site two (fromAt count) (p .a) of-from q
@@ -290,9 +277,6 @@ module _ (setup : Setup) (a : Arrays) (ok : Right a) (p : Posting) where
         (part-ext (more .bytes) (a .bytes) (logAt 0) capacity (λ q b c.
         left three (intoAt count) (p .b) of-into q (λ e. omega arith) ∙ left two (fromAt count) (p .a) of-from q (λ e. omega arith)
         ∙ left one (kindAt count) (p .kind) of-kind q (λ e. omega arith) ∙ left a (ownerAt count) (p .owner) of-owner q (λ e. omega arith))))
-
-    abbrev long-bytes : (i : ℕ) → i < bytesLong → i < length (a .bytes)
-    long-bytes i h = omega (arith, ok .bytes-long)
 
     own-row : rowOf more count ≡ p
     unfolding rowOf entered

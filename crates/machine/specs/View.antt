@@ -2,10 +2,8 @@
 -- Proof machinery: proofs/ tie each event on the arrays to what Calls says of the board shown. Rests on arrays, on flight, site, posting and sets.
 use Prim.Native.Nat.{ℕ, _<_}
 use mathlib.Core.Path.{_≡_}
-use mathlib.Core.List.{List}
 use lib.ListN.{length, getD}
-use Rattle.sets.specs.declared.Set.{Set}
-use Rattle.sets.specs.Sets.{words, capacity}
+use Rattle.sets.specs.Sets.{capacity}
 use Rattle.posting.specs.declared.Posting.{Posting}
 use Rattle.posting.specs.declared.Table.{Table}
 use Rattle.posting.specs.declared.Record.{Record}
@@ -15,10 +13,10 @@ use Rattle.site.specs.declared.Setup.{Setup}
 use Rattle.site.specs.declared.Site.{Site}
 use Rattle.site.specs.declared.Tally.{Tally}
 use Rattle.site.specs.Sites.{sites}
-use Rattle.flight.specs.Flights.{pairs, cells, wordsFrom, flightOf}
+use Rattle.flight.specs.Flights.{cells, wordsFrom, flightOf}
 use Rattle.arrays.specs.Layout.{seenOf, heldOf, steppedOf, finishedOf, gotOf, poolSlot, unionOf, entryOf, haveOf, setsLong, countAt, loggedAt, placeAt, deliveredAt, countsLong, downAt, ownerAt, kindAt, fromAt, intoAt, talliedAt, hasAt, logAt, heardAt, goodAt, recordAt, bytesLong}
 use Rattle.arrays.specs.Arrays.{Arrays, slotSet, hasIn, byte}
-use Rattle.index.proofs.Indexed.{Indexed}
+use Rattle.index.specs.Index.{Indexed}
 use Rattle.machine.specs.declared.Board.{Board}
 
 -- the record of site p

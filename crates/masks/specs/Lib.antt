@@ -1,1 +1,3 @@
+-- SiteMasks: masks of sites.
+-- Rests on sets.
 pub mod SiteMasks

@@ -1,4 +1,4 @@
--- Bounds on the lengths of the texts, by the numbers of digits: a finished run is no longer than longestRun says.
+-- Bounds on the lengths of the texts, by the numbers of digits: the line of an event is no longer than 30 bytes, a finished run than longestRun says.
 -- Rests on Output and Texts. Of bytes, and of posting and site numbers, that they are below 1,000 is a premise. Assumes nothing.
 use Prim.Native.Nat.{ℕ, zero, suc, _+_, _*_, _/_, _^_, _<_, _≤_}
 use mathlib.Core.Path.{ap}
@@ -17,7 +17,7 @@ use Rattle.books.specs.declared.Records.{Records}
 use Rattle.books.specs.Books.{recordOf}
 use Rattle.printer.specs.declared.Ended.{Ended}
 use Rattle.printer.specs.Output.{lastDigit, decimal, okWord, noWord, upWord, downWord, newline, eventLine, eventLines, items, siteLine, siteLines, logLine, quietLine, boardLines, printedOf}
-use Rattle.printer.specs.Writing.{mostEvents, longestRun}
+use Rattle.printer.specs.Writing.{lastPlace, mostEvents, longestRun}
 use Rattle.printer.proofs.Texts.{decimal-last, decimal-more}
 
 -- every number of a list has at most three digits
@@ -54,6 +54,10 @@ three-digits n h = decimal-length 2 n h
 pub four-digits : (n : ℕ) → n < 10_000 → length (decimal n) ≤ 4
 four-digits n h = decimal-length 3 n h
 
+-- no usize has more than 20
+pub most-digits : (n : ℕ) → n ≤ lastPlace → length (decimal n) ≤ 20
+most-digits n h = decimal-length 19 n (omega arith)
+
 -- ---- lines
 
 answer-length : (refusal : ℕ) → refusal < 1_000 → length (cond (eqb refusal 0) okWord (noWord ++ (decimal refusal ++ newline))) ≤ 8
@@ -62,15 +66,18 @@ answer-length refusal h = elim (test (eqb refusal 0)) [
   | inr f ↦ rw f (omega (arith, length-append (decimal refusal) newline, three-digits refusal h))
 ]
 
-event-length : (k refusal : ℕ) → k < 10_000 → refusal < 1_000 → length (eventLine k refusal) ≤ 14
+event-length : (d k refusal : ℕ) → length (decimal k) ≤ d → refusal < 1_000 → length (eventLine k refusal) ≤ d + 10
 unfolding eventLine
-event-length k refusal hk h =
+event-length d k refusal hk h =
     omega (
       arith,
       length-append (decimal k) (cond (eqb refusal 0) okWord (noWord ++ (decimal refusal ++ newline))),
-      four-digits k hk,
       answer-length refusal h,
     )
+
+-- the line of any event
+pub longest-line : (k refusal : ℕ) → k ≤ lastPlace → refusal < 1_000 → length (eventLine k refusal) ≤ 30
+longest-line k refusal hk h = event-length 20 k refusal (most-digits k hk) h
 
 events-length : (k : ℕ) (l : List ℕ) → k + length l < 10_000 → Small l → length (eventLines k l) ≤ 14 * length l
 unfolding eventLines
@@ -79,7 +86,7 @@ events-length k (refusal ∷ l) h s =
     omega (
       arith,
       length-append (eventLine (k + 1) refusal) (eventLines (k + 1) l),
-      event-length (k + 1) refusal (omega arith) (s 0),
+      event-length 4 (k + 1) refusal (four-digits (k + 1) (omega arith)) (s 0),
       events-length (k + 1) l (omega arith) (λ i. s (suc i)),
     )
 

@@ -1,6 +1,6 @@
--- Laws of the texts: a number by its last digit, and lines and items with one more at the end.
+-- Laws of the texts: a number by its last digit or its last two, and lines and items with one more at the end.
 -- Rests on Output. Assumes nothing.
-use Prim.Native.Nat.{ℕ, zero, suc, _+_, _/_, _<_, _≤_}
+use Prim.Native.Nat.{ℕ, zero, suc, _+_, _*_, _/_, _%_, _<_, _≤_}
 use mathlib.Core.Path.{_≡_, refl, sym, ap, _∙_}
 use mathlib.Core.Logic.{inl, inr}
 use mathlib.Core.List.{List, [], _∷_, _++_, append-assoc, append-nil}
@@ -51,6 +51,20 @@ decimal-hundreds n h =
     sym (append-assoc (decimal (n / 100)) (lastDigit (n / 10) ∷ []) (lastDigit n ∷ []))
     ∙ ap (λ (l : List ℕ). l ++ (lastDigit n ∷ [])) more
     ∙ decimal-more n (omega arith)
+
+-- two bytes out of one number
+bytes-of : (a b : ℕ) → a < 256 → (a + 256 * b) % 256 ∷ (a + 256 * b) / 256 ∷ [] ≡ a ∷ b ∷ []
+bytes-of a b h =
+    let low : (a + 256 * b) % 256 ≡ a = omega arith in
+    let high : (a + 256 * b) / 256 ≡ b = omega arith in
+    rw (low, high)
+
+-- the last two digits out of the number that their bytes make
+pub two-digits : (n : ℕ) → let both = 48 + n % 100 / 10 + 256 * (48 + n % 100 % 10) in both % 256 ∷ both / 256 ∷ [] ≡ lastDigit (n / 10) ∷ lastDigit n ∷ []
+two-digits n =
+    let tens : n % 100 / 10 ≡ n / 10 % 10 = omega arith in
+    let ones : n % 100 % 10 ≡ n % 10 = omega arith in
+    rw (tens, ones) (bytes-of (lastDigit (n / 10)) (lastDigit n) (omega arith))
 
 -- ---- lines and items with one more
 

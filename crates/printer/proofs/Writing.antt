@@ -1,6 +1,6 @@
--- Laws of writing: one text after another is their concatenation; a text that fits stands at the beginning, one that does not is seen by its place.
+-- Laws of writing: one text after another is their concatenation; what room is left after a text; a text that fits stands at the beginning, one that does not is seen by its place.
 -- Rests on Writing. Assumes nothing.
-use Prim.Native.Nat.{ℕ, suc, min, _+_, _<_, _≤_}
+use Prim.Native.Nat.{ℕ, suc, min, _+_, _-_, _<_, _≤_}
 use mathlib.Core.Path.{_≡_, refl, sym, ap, _∙_}
 use mathlib.Core.Logic.{inl, inr}
 use mathlib.Core.Bool.{cond}
@@ -8,9 +8,9 @@ use mathlib.Core.List.{List, [], _∷_, _++_}
 use native.Mathlib.Numerals.{add-one}
 use native.Mathlib.Omega.{arith}
 use lib.Dec.{ltb, leb}
-use lib.ListN.{length, drop, set, length-set, length-append}
-use lib.Seq.{sets, sets-eq}
-use borrow.Author.Tests.{lt-ltb, ltb-true, ltb-false, le-leb, lt-leb}
+use lib.ListN.{length, take, drop, set, length-set, length-append}
+use lib.Seq.{sets, sets-eq, take-append-seam}
+use borrow.Author.Tests.{lt-ltb, ltb-true, ltb-false, leb-true, leb-false, le-leb, lt-leb}
 use Rattle.sets.specs.Truth.{test}
 use Rattle.printer.specs.declared.Printed.{Printed}
 use Rattle.printer.specs.declared.Printed.the-variants.{Written, Short}
@@ -53,6 +53,14 @@ put-length {a} {at} {p} {s} {t} x = ap length (x .holds) ∙ length-putting a s 
 
 -- ---- where a text ends
 
+after-within : (a : List ℕ) (at : ℕ) → after at a ≤ at + length a
+unfolding after
+after-within [] at = omega arith
+after-within (x ∷ a) at = elim (test (ltb at lastPlace)) [
+  | inl t ↦ rw t (omega (arith, after-within a (at + 1)))
+  | inr f ↦ rw f (omega (arith, after-within a at))
+]
+
 after-is : (a : List ℕ) (at : ℕ) → at ≤ lastPlace → after at a ≡ min (at + length a) lastPlace
 unfolding after
 after-is [] at h = omega arith
@@ -68,6 +76,23 @@ putting-sets (x ∷ a) s at h =
     let l : at < lastPlace = omega arith in
     rw (lt-ltb at lastPlace l, add-one) (putting-sets a (set s at x) (suc at) (omega arith))
 
+-- ---- room
+
+-- where there was room for a text and more bytes, there is room for these after it
+pub put-room : {a : List ℕ} {at p : ℕ} {s t : List ℕ} (more : ℕ) → Put a at s t p → at + (length a + more) ≤ length s → p + more ≤ length t
+put-room {a} {at} {p} {s} {t} more x h = omega (arith, x .moved, after-within a at, put-length x)
+
+-- the test of room that adds nothing to the place
+pub room-test : (count at all : ℕ) → count ≤ all → leb at (all - count) ≡ leb (at + count) all
+room-test count at all h = elim (test (leb at (all - count))) [
+  | inl t ↦
+      let l : at + count ≤ all = omega (arith, leb-true at (all - count) t) in
+      t ∙ sym (le-leb (at + count) all l)
+  | inr f ↦
+      let l : all < at + count = omega (arith, leb-false at (all - count) f) in
+      f ∙ sym (lt-leb (at + count) all l)
+]
+
 -- ---- a text that fits, and one that does not
 
 -- nothing is put into no bytes
@@ -80,16 +105,23 @@ none-held (x ∷ a) at = none-held a (next at)
 abbrev pub Prints : List ℕ → List ℕ → Printed → List ℕ → Type 0
 Prints text s x t = (x ≡ answerPrinted text s) × ((t ≡ slicePrinted text s) × (writtenOf x ≡ writtenOf (answerPrinted text s)))
 
--- a text no longer than the slice, written
-pub at-once : (text s u : List ℕ) (end : ℕ) → length s < lastPlace → length text ≤ length s → Put text 0 s u end → Prints text s (Written end) u
-unfolding answerPrinted slicePrinted
-at-once text s u end room l x =
-    let n : 0 + length text ≡ length text = omega arith in
-    let all : end ≡ length text = omega (arith, x .moved, after-is text 0 (omega arith)) in
-    rw (le-leb (length text) (length s) l) (
-      ap Written all,
-      (x .holds ∙ putting-sets text s 0 (omega arith) ∙ sets-eq text s 0 (omega arith) ∙ ap (λ (k : ℕ). text ++ drop k s) n, ap (λ (k : ℕ). writtenOf (Written k)) all),
-    )
+-- a text no longer than the slice, written from its beginning on
+module _ (text s u : List ℕ) (end : ℕ) (room : length s < lastPlace) (l : length text ≤ length s) (x : Put text 0 s u end) where
+  all-written : end ≡ length text
+  all-written = omega (arith, x .moved, after-is text 0 (omega arith))
+
+  stands : u ≡ text ++ drop (length text) s
+  stands =
+      let n : 0 + length text ≡ length text = omega arith in
+      x .holds ∙ putting-sets text s 0 (omega arith) ∙ sets-eq text s 0 (omega arith) ∙ ap (λ (k : ℕ). text ++ drop k s) n
+
+  pub text-read : take end u ≡ text
+  text-read = rw (all-written, stands) (take-append-seam text (drop (length text) s))
+
+  pub at-once : Prints text s (Written end) u
+  unfolding answerPrinted slicePrinted
+  at-once =
+      rw (le-leb (length text) (length s) l) (ap Written all-written, (stands, ap (λ (k : ℕ). writtenOf (Written k)) all-written))
 
 -- the text was counted on no bytes of the slice, which are t after that
 module _ (text s t : List ℕ) (needed : ℕ) (counted : Put text 0 [] t needed) where

@@ -1,13 +1,14 @@
 // What `board` prints, written into a lent slice: the lines of a finished run, or the line of a refusal.
 // Rests on site for masks, posting for records. A place past the slice is counted and nothing is put there.
-ghost use Prim.Native.Nat.{_/_, _<_};
+ghost use Prim.Native.Nat.{_+_, _/_, _<_, _≤_};
 ghost use mathlib.Core.Path.{_≡_};
 ghost use mathlib.Core.Bool.{cond};
 ghost use mathlib.Core.List.{[], _∷_, _++_};
+ghost use lib.Dec.{eqb, leb};
 ghost use lib.ListN.{length};
 ghost use Rattle.posting.specs.Records.{numbersOf};
 ghost use Rattle.books.specs.Books.{recordOf};
-ghost use Rattle.printer.specs.Output.{lastDigit, decimal, eventLine, eventLines, items, siteLine, siteLines, logLine, quietLine, boardLines, printedOf, refusedLine, space, upWord, downWord};
+ghost use Rattle.printer.specs.Output.{lastDigit, decimal, eventLine, eventLines, items, siteLine, siteLines, logLine, quietLine, boardLines, printedOf, refusedLine, space, upWord, downWord, okWord, noWord, newline};
 ghost use Rattle.printer.specs.Writing.{Put, slicePrinted, writtenOf, answerPrinted, surelyFits};
 use crate::Ended;
 use crate::Printed;
@@ -25,8 +26,13 @@ const NEWLINE: u8 = 10;
 // Below so many events, an event's number has four digits at most.
 const MOST_EVENTS: usize = 10_000;
 
-// No line of an event is longer: four digits of its number, three of a refusal's.
+const EVENT_DIGITS: usize = 4;
+
+// No line of such an event is longer: four digits of its number, three of a refusal's.
 const EVENT_LINE: usize = 14;
+
+// No line of any event is longer: its number has 20 digits at most.
+const LONGEST_LINE: usize = 30;
 
 // No line of a site is longer: its record has 64 numbers at most, of three digits.
 const SITE_LINE: usize = 267;
@@ -34,13 +40,49 @@ const SITE_LINE: usize = 267;
 // Nor are the log's line and the last, together.
 const LAST_LINES: usize = 264;
 
+// From a place on there are so many bytes in a slice of such a length. Nothing is added to the place, which may be the largest.
+fn has_room(count: usize, at: usize, all: usize) -> bool
+    ensures { λ r. ⌜ r ≡ leb (at + count) all ⌝ }
+{
+    if all < count {
+        return false;
+    }
+    at <= all - count
+}
+
+// One byte, where the slice has room for it: the place is not tested. So it is with all functions whose names end with `in`.
+fn put_in(byte: u8, at: usize, out: &mut [u8]) -> usize
+    requires { ⌜ at < length (now out) ⌝ }
+    ensures { λ r. ⌜ Put (byte ∷ []) at (now (out .entry)) (now (out .exit)) r ⌝ }
+{
+    out[at] = byte;
+    at + 1
+}
+
+// Two bytes.
+fn put_pair_in(first: u8, second: u8, at: usize, out: &mut [u8]) -> usize
+    requires { ⌜ at + 2 ≤ length (now out) ⌝ }
+    ensures { λ r. ⌜ Put (first ∷ second ∷ []) at (now (out .entry)) (now (out .exit)) r ⌝ }
+{
+    let place = put_in(first, at, out);
+    put_in(second, place, out)
+}
+
+// Four bytes.
+fn put_four_in(first: u8, second: u8, third: u8, fourth: u8, at: usize, out: &mut [u8]) -> usize
+    requires { ⌜ at + 4 ≤ length (now out) ⌝ }
+    ensures { λ r. ⌜ Put (first ∷ second ∷ third ∷ fourth ∷ []) at (now (out .entry)) (now (out .exit)) r ⌝ }
+{
+    let place = put_pair_in(first, second, at, out);
+    put_pair_in(third, fourth, place, out)
+}
+
 // One byte.
 pub fn put(byte: u8, at: usize, out: &mut [u8]) -> usize
     ensures { λ r. ⌜ Put (byte ∷ []) at (now (out .entry)) (now (out .exit)) r ⌝ }
 {
     if at < out.len() {
-        out[at] = byte;
-        return at + 1;
+        return put_in(byte, at, out);
     }
     if at < LAST {
         return at + 1;
@@ -83,51 +125,96 @@ fn put_long(x: usize, at: usize, out: &mut [u8]) -> usize
     put(digit, place, out)
 }
 
-// The last two digits of a number.
-fn put_two(x: usize, at: usize, out: &mut [u8]) -> usize
+// The last two digits of a number. Both bytes are made as one number, so that the compiler stores them at once.
+fn put_two_in(x: usize, at: usize, out: &mut [u8]) -> usize
+    requires { ⌜ at + 2 ≤ length (now out) ⌝ }
     ensures { λ r. ⌜ Put (lastDigit (x / 10) ∷ lastDigit x ∷ []) at (now (out .entry)) (now (out .exit)) r ⌝ }
 {
-    let place = put(last_digit(x / 10), at, out);
-    put(last_digit(x), place, out)
+    let low = x % 100;
+    let both = 48 + low / 10 + 256 * (48 + low % 10);
+    put_pair_in((both % 256) as u8, (both / 256) as u8, at, out)
 }
 
-// A number of one digit or two.
-fn put_short(x: usize, at: usize, out: &mut [u8]) -> usize
-    requires { ⌜ x < 100 ⌝ }
+// A number of one digit, two or three.
+fn put_short_in(x: usize, at: usize, out: &mut [u8]) -> usize
+    requires { ⌜ (x < 1_000) × (at + 3 ≤ length (now out)) ⌝ }
     ensures { λ r. ⌜ Put (decimal x) at (now (out .entry)) (now (out .exit)) r ⌝ }
 {
     if x < 10 {
-        return put(last_digit(x), at, out);
+        return put_in(last_digit(x), at, out);
     }
-    put_two(x, at, out)
+    if x < 100 {
+        return put_two_in(x, at, out);
+    }
+    let place = put_in(last_digit(x / 100), at, out);
+    put_two_in(x, place, out)
 }
 
-// A number in base ten. Those that a run's lines have are of four digits at most.
-pub fn put_number(x: usize, at: usize, out: &mut [u8]) -> usize
+// A number. Those that a run's lines have are of four digits at most; the places of a longer one are tested.
+fn put_number_in(x: usize, at: usize, out: &mut [u8]) -> usize
+    requires { ⌜ at + 4 ≤ length (now out) ⌝ }
     ensures { λ r. ⌜ Put (decimal x) at (now (out .entry)) (now (out .exit)) r ⌝ }
 {
-    if x < 100 {
-        return put_short(x, at, out);
+    if x < 1_000 {
+        return put_short_in(x, at, out);
     }
     if x < MOST_EVENTS {
-        let place = put_short(x / 100, at, out);
-        return put_two(x, place, out);
+        let place = put_two_in(x / 100, at, out);
+        return put_two_in(x, place, out);
     }
     put_long(x, at, out)
 }
 
-// E: the event's number, and its answer as the number of a refusal, 0 if it was accepted.
+// A number in base ten.
+pub fn put_number(x: usize, at: usize, out: &mut [u8]) -> usize
+    ensures { λ r. ⌜ Put (decimal x) at (now (out .entry)) (now (out .exit)) r ⌝ }
+{
+    if has_room(EVENT_DIGITS, at, out.len()) {
+        return put_number_in(x, at, out);
+    }
+    put_long(x, at, out)
+}
+
+// An event's answer, given as the number of a refusal, 0 if it was accepted.
+fn answer_in(refusal: u8, at: usize, out: &mut [u8]) -> usize
+    requires { ⌜ at + 8 ≤ length (now out) ⌝ }
+    ensures { λ r. ⌜ Put (cond (eqb refusal 0) okWord (noWord ++ (decimal refusal ++ newline))) at (now (out .entry)) (now (out .exit)) r ⌝ }
+{
+    if refusal == 0 {
+        return put_four_in(b' ', b'o', b'k', NEWLINE, at, out);
+    }
+    let p = put_four_in(b' ', b'n', b'o', b' ', at, out);
+    let q = put_number_in(wide(refusal), p, out);
+    put_in(NEWLINE, q, out)
+}
+
+// E: the event's number, and its answer.
+fn event_line_in(k: usize, refusal: u8, at: usize, out: &mut [u8]) -> usize
+    requires { ⌜ at + 30 ≤ length (now out) ⌝ }
+    ensures { λ r. ⌜ Put (eventLine k refusal) at (now (out .entry)) (now (out .exit)) r ⌝ }
+{
+    let p = put_pair_in(b'E', b' ', at, out);
+    let q = put_number_in(k, p, out);
+    answer_in(refusal, q, out)
+}
+
+// The same where there may be no room: the line is made in an array and put from there.
+fn event_line_from_array(k: usize, refusal: u8, at: usize, out: &mut [u8]) -> usize
+    ensures { λ r. ⌜ Put (eventLine k refusal) at (now (out .entry)) (now (out .exit)) r ⌝ }
+{
+    let mut line = [0; LONGEST_LINE];
+    let end = event_line_in(k, refusal, 0, &mut line);
+    put_text(&line[0..end], at, out)
+}
+
+// The same, anywhere.
 fn event_line(k: usize, refusal: u8, at: usize, out: &mut [u8]) -> usize
     ensures { λ r. ⌜ Put (eventLine k refusal) at (now (out .entry)) (now (out .exit)) r ⌝ }
 {
-    let p = put_text(b"E ", at, out);
-    let q = put_number(k, p, out);
-    if refusal == 0 {
-        return put_text(b" ok\n", q, out);
+    if has_room(LONGEST_LINE, at, out.len()) {
+        return event_line_in(k, refusal, at, out);
     }
-    let r = put_text(b" no ", q, out);
-    let s = put_number(wide(refusal), r, out);
-    put(NEWLINE, s, out)
+    event_line_from_array(k, refusal, at, out)
 }
 
 // The lines of all events.

@@ -8,8 +8,8 @@ use mathlib.Core.List.{List, [], _∷_}
 use native.Mathlib.Omega.{arith}
 use lib.Dec.{eqb, leb}
 use lib.ListN.{length}
-use borrow.Author.Tests.{eq-eqb, ne-eqb, leb-true}
-use Rattle.sets.specs.Truth.{and-left, and-right}
+use borrow.Author.Tests.{ne-eqb, leb-true}
+use Rattle.sets.specs.Truth.{never, and-left, and-right}
 use Rattle.posting.specs.Kinds.{symmetric, hasFixedPairs}
 use Rattle.site.specs.declared.Setup.{Setup}
 use Rattle.machine.specs.declared.Board.{Board}
@@ -21,7 +21,8 @@ use Rattle.machine.specs.Soundness.{sitesOk, crashesOk}
 use Rattle.machine.specs.Calls.{refusalOf, judged, starting}
 use Rattle.steps.specs.Causes.{cause}
 use Rattle.machine.specs.Runs.{accepted, running, isQuiet}
-use Rattle.invariants.proofs.Start.{reached-sound}
+use Rattle.invariants.proofs.Reached.{GoodIf}
+use Rattle.invariants.proofs.Start.{reached-good, reached-sound}
 use Rattle.printer.specs.declared.Ended.{Ended}
 use Rattle.printer.specs.declared.Printed.{Printed}
 use Rattle.decoder.specs.RunFile.{setupOf, headerOk, lengthOk, eventsOk, eventCount, eventLimit, wellFormed, callsOf}
@@ -29,7 +30,7 @@ use Rattle.printer.specs.Output.{refusedLine, printedOf}
 use Rattle.printer.proofs.Writing.{Prints}
 use Rattle.steps.specs.Causes.{firstCause}
 use Rattle.machine.specs.ByMask.{startCauses, refusing, taken}
-use Rattle.machine.proofs.Causes as causes
+use Rattle.machine.proofs.Causes.{start-refused, start-done}
 use Rattle.runfile.specs.Program.{StaysSound, endedOn, refusals, printedRun, printedFrom, printed}
 
 -- a well-formed file has no more events than the limit
@@ -78,35 +79,38 @@ start-accepted n f matrix e =
     go false false false true back board e = absurd (omega arith)
     go false false false false back board e = refl
 
--- the start of a well-formed file, and the number of its refusal
-module _ (input : List ℕ) (refusal : ℕ) (o : Outcome) (t : wellFormed input ≡ true) (eo : o ≡ startWith (setupOf input)) (er : refusal ≡ refusalOf (o .answer)) where
-  pub start-refused : refusal ≢ 0 → refusedLine refusal ≡ printed input
-  unfolding printed printedFrom
-  start-refused d = rw (t, sym eo, sym er, ne-eqb refusal 0 d)
+-- the number of a start's refusal, from its tests: what the start gives, and that every board reached from it is sound
+module _ (setup : Setup) (why : ℕ) (tested : why ≡ firstCause (startCauses (setup .n) (setup .f) (setup .matrix))) where
+  start-taken : why ≡ 0 → taken (freshBoard setup) ≡ startWith setup
+  start-taken z = start-done (setup .n) (setup .f) (setup .matrix) why (freshBoard setup) tested z refl
 
-  pub start-run : refusal ≡ 0 → printedRun (o .board) (callsOf input) ≡ printed input
-  unfolding printed printedFrom
-  start-run z = rw (t, sym eo, sym er, eq-eqb refusal 0 z)
+  start-board : why ≡ 0 → freshBoard setup ≡ startWith setup .board
+  start-board z = ap (λ (o : Outcome). o .board) (start-taken z)
 
-  pub start-stays : refusal ≡ 0 → StaysSound (o .board)
-  start-stays z calls =
-      let setup = setupOf input in
-      rw eo (reached-sound (setup .n) (setup .f) (setup .matrix) (start-accepted (setup .n) (setup .f) (setup .matrix) (ap (λ (x : Outcome). refusalOf (x .answer)) (sym eo) ∙ sym er ∙ z)) calls)
+  start-answer : why ≡ 0 → accepted (startWith setup .answer) ≡ true
+  start-answer z = start-accepted (setup .n) (setup .f) (setup .matrix) (ap (λ (o : Outcome). refusalOf (o .answer)) (sym (start-taken z)))
 
--- the same from the number of the start's refusal
-module _ (input : List ℕ) (setup : Setup) (why : ℕ) (t : wellFormed input ≡ true) (es : setup ≡ setupOf input)
-    (tested : why ≡ firstCause (startCauses (setup .n) (setup .f) (setup .matrix))) where
-  as-started : {o : Outcome} → o ≡ starting (setup .n) (setup .f) (setup .matrix) → o ≡ startWith (setupOf input)
-  as-started e = e ∙ ap startWith es
+  pub start-stays : why ≡ 0 → StaysSound (freshBoard setup)
+  start-stays z calls = rw (start-board z) (reached-sound (setup .n) (setup .f) (setup .matrix) (start-answer z) calls)
 
-  pub file-refused : why ≢ 0 → refusedLine why ≡ printed input
-  file-refused d =
-      start-refused input why (refusing blankBoard why) t (as-started (causes.start-refused (setup .n) (setup .f) (setup .matrix) why blankBoard tested d refl)) refl d
+  pub start-good : why ≡ 0 → GoodIf false (freshBoard setup)
+  unfolding running
+  start-good z =
+      let g = reached-good (setup .n) (setup .f) (setup .matrix) (start-answer z) [] in
+      rw (start-board z) (record { shape = g .shape; sound = g .sound; blank = λ f. absurd (never f refl) })
 
-  pub file-run : why ≡ 0 → printedRun (freshBoard setup) (callsOf input) ≡ printed input
-  file-run z =
-      start-run input 0 (taken (freshBoard setup)) t (as-started (causes.start-done (setup .n) (setup .f) (setup .matrix) why (freshBoard setup) tested z refl)) refl refl
+  -- of the setup of a file
+  module _ (input : List ℕ) (es : setup ≡ setupOf input) where
+    pub file-refused : why ≢ 0 → refusing blankBoard why ≡ startWith (setupOf input)
+    file-refused d = start-refused (setup .n) (setup .f) (setup .matrix) why blankBoard tested d refl ∙ ap startWith es
 
-  pub file-stays : why ≡ 0 → StaysSound (freshBoard setup)
-  file-stays z =
-      start-stays input 0 (taken (freshBoard setup)) t (as-started (causes.start-done (setup .n) (setup .f) (setup .matrix) why (freshBoard setup) tested z refl)) refl refl
+    pub file-taken : why ≡ 0 → taken (freshBoard setup) ≡ startWith (setupOf input)
+    file-taken z = start-taken z ∙ ap startWith es
+
+    pub refused-printed : wellFormed input ≡ true → why ≢ 0 → refusedLine why ≡ printed input
+    unfolding printed printedFrom
+    refused-printed t d = rw (t, sym (file-refused d), ne-eqb why 0 d)
+
+    pub taken-printed : wellFormed input ≡ true → why ≡ 0 → printedRun (freshBoard setup) (callsOf input) ≡ printed input
+    unfolding printed printedFrom
+    taken-printed t z = rw (t, sym (file-taken z))

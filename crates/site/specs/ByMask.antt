@@ -20,7 +20,7 @@ use Rattle.site.specs.declared.Sends.{Sends}
 use Rattle.site.specs.declared.Stepped.{Stepped}
 use Rattle.site.specs.Sites.{sites, heardFor, goodFor, siteSeen, siteHeard, siteStepped, siteFinished, siteGot, sitePlace}
 use Rattle.site.specs.Sends.{FIRST, SECOND, THIRD, DELIVER, Send, first, second, third, deliver, entry, Step}
-use Rattle.site.specs.Steps.{ownerOf, alone, quorum, majority, delivering, deliveringAll}
+use Rattle.site.specs.Steps.{ownerOf, alone, quorum, majority, deliveringAll}
 
 -- ---- what is sent, as a list
 
@@ -157,10 +157,6 @@ deliverByMask setup table site tally p m =
 -- the site once the log's next entry is taken; a place past the capacity stays
 unfoldable pub readSite : Site → Site
 readSite site = cond (ltb (site .place) capacity) (sitePlace site (site .place + 1)) site
-
--- a record with m if so, if it lacks it
-abbrev pub deliveringIf : Record → ℕ → Bool → Record
-deliveringIf r m so = cond so (delivering r m) r
 
 -- a record with the carried set in rising number, then m
 abbrev pub deliveringEntry : Record → Set → ℕ → Record

@@ -1,3 +1,5 @@
+-- Sites: a site's parts. Sends and Steps: what it does. ByMask: the same by masks of receivers; ByMaskLaws: that it is the same.
+-- Rests on masks, posting and sets.
 pub mod Sites
 pub mod Sends
 pub mod Steps

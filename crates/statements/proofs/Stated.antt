@@ -8,35 +8,31 @@ use mathlib.Core.List.{List, [], _∷_, _++_}
 use native.Mathlib.Omega.{arith}
 use lib.IntN.{ℤ}
 use lib.ListN.{length, take, drop}
-use borrow.Author.Tests.{eq-eqb, ne-eqb, le-ltb}
-use Rattle.sets.specs.Truth.{never}
+use borrow.Author.Tests.{ne-eqb, le-ltb}
 use Rattle.site.specs.declared.Setup.{Setup}
 use Rattle.steps.specs.Causes.{firstCause}
 use Rattle.arrays.specs.Layout.{downAt}
 use Rattle.arrays.specs.Arrays.{Arrays, byte}
 use Rattle.machine.specs.declared.Answer.{Answer}
 use Rattle.machine.specs.declared.Board.{Board}
-use Rattle.machine.specs.Boards.{freshBoard, blankBoard}
+use Rattle.machine.specs.Boards.{freshBoard}
 use Rattle.machine.specs.View.{view}
-use Rattle.machine.specs.ByMask.{startCauses, refusing, taken}
-use Rattle.machine.proofs.Causes.{start-refused, start-done}
-use Rattle.invariants.proofs.Reached.{GoodIf}
-use Rattle.invariants.proofs.Start.{reached-good}
+use Rattle.machine.specs.ByMask.{startCauses}
 use Rattle.steps.specs.declared.Call.{Call}
-use Rattle.machine.specs.declared.Outcome.{Outcome}
 use Rattle.machine.specs.Soundness.{isSound}
-use Rattle.machine.specs.Calls.{answerOf, refusalOf}
+use Rattle.machine.specs.Calls.{answerOf}
 use Rattle.machine.specs.Runs.{taking, running}
 use Rattle.shown.proofs.Showing.{length-all}
 use Rattle.machine.specs.Figures.{figuresOfAll, shown, showingAll}
+use Rattle.drain.specs.declared.Drained.{Drained}
 use Rattle.drain.specs.Drain.{nextEvent, draining, drained}
 use Rattle.drain.proofs.Loop.{next-cases, draining-none, draining-event}
 use Rattle.decoder.specs.RunFile.{setupOf, wellFormed, callsOf}
 use Rattle.printer.specs.Output.{refusedLine}
 use Rattle.figures_table.specs.Table.{statementText}
 use Rattle.runfile.specs.Program.{StaysSound}
-use Rattle.runfile.proofs.Programs.{startWith, start-accepted}
-use Rattle.statements.specs.Statement.{statementOf, settledRun, drainLimit, statedRun, statedFrom, stated}
+use Rattle.runfile.proofs.Programs.{file-refused, file-taken}
+use Rattle.statements.specs.Statement.{statementOf, drainLimit, statedRun, statedFrom, stated}
 
 -- ---- a drain
 
@@ -64,41 +60,43 @@ run-stays b (c ∷ calls) h = run-stays (taking b c .board) calls (stays-after b
 -- ---- a run from the board of a start, and a drain
 
 module _ (setup : Setup) (calls : List Call) (limit : ℕ) (stays : StaysSound (freshBoard setup)) where
-  pub settled-sound : isSound (settledRun setup calls limit .board) ≡ true
-  unfolding settledRun
-  settled-sound = drain-stays limit limit 0 (running (freshBoard setup) calls) (run-stays (freshBoard setup) calls stays)
+  abbrev settled : Drained
+  settled = drained (running (freshBoard setup) calls) limit
 
-pub settled-stated : (setup : Setup) (calls : List Call) → StaysSound (freshBoard setup) → statementOf (settledRun setup calls drainLimit .board) ≡ statedRun (freshBoard setup) calls
-unfolding settledRun statedRun drained
-settled-stated setup calls stays = rw (stays calls)
+  not-refused : draining limit limit 0 (running (freshBoard setup) calls) ≡ settled
+  unfolding drained
+  not-refused = rw (stays calls)
 
--- the arrays that the run and the drain leave, of the board that they show
-module _ (setup : Setup) (calls : List Call) (limit : ℕ) (a d : Arrays) (run : view setup a ≡ running (freshBoard setup) calls)
-    (drain : view setup d ≡ draining limit limit 0 (view setup a) .board) where
-  pub settled-view : view setup d ≡ settledRun setup calls limit .board
-  unfolding settledRun
-  settled-view = drain ∙ ap (λ (b : Board). draining limit limit 0 b .board) run
+  pub settled-sound : isSound (settled .board) ≡ true
+  settled-sound = rw (sym not-refused) (drain-stays limit limit 0 (running (freshBoard setup) calls) (run-stays (freshBoard setup) calls stays))
 
-  pub settled-count : (count : ℕ) → count ≡ draining limit limit 0 (view setup a) .count → count ≡ settledRun setup calls limit .count
-  unfolding settledRun
-  settled-count count e = e ∙ ap (λ (b : Board). draining limit limit 0 b .count) run
+  -- the arrays that the run and the drain leave, of the board that they show
+  module _ (a d : Arrays) (run : view setup a ≡ running (freshBoard setup) calls) (drain : view setup d ≡ draining limit limit 0 (view setup a) .board) where
+    after : draining limit limit 0 (view setup a) ≡ settled
+    after = ap (draining limit limit 0) run ∙ not-refused
 
-  pub settled-down : byte (d .bytes) downAt ≡ settledRun setup calls limit .board .down
-  unfolding view
-  settled-down = ap (λ (b : Board). b .down) settled-view
+    pub settled-view : view setup d ≡ settled .board
+    settled-view = drain ∙ ap (λ (x : Drained). x .board) after
 
-  pub settled-setup : settledRun setup calls limit .board .setup ≡ setup
-  unfolding view
-  settled-setup = ap (λ (b : Board). b .setup) (sym settled-view)
+    pub settled-count : (count : ℕ) → count ≡ draining limit limit 0 (view setup a) .count → count ≡ settled .count
+    settled-count count e = e ∙ ap (λ (x : Drained). x .count) after
 
-  pub settled-books :
-      StaysSound (freshBoard setup) → (answer : Answer) (before after : List ℤ)
-      → (isSound (view setup d) ≡ true
-      → (answer ≡ showingAll (view setup d) before .answer) × (after ≡ showingAll (view setup d) before .slice) × (answerOf answer ≡ answerOf (showingAll (view setup d) before .answer)))
-      → (answer ≡ showingAll (settledRun setup calls limit .board) before .answer) × (after ≡ showingAll (settledRun setup calls limit .board) before .slice)
-  settled-books stays answer before after h =
-      let (e, f, said) = h (rw settled-view (settled-sound setup calls limit stays)) in
-      (rw settled-view at e, rw settled-view at f)
+    pub settled-down : byte (d .bytes) downAt ≡ settled .board .down
+    unfolding view
+    settled-down = ap (λ (b : Board). b .down) settled-view
+
+    pub settled-setup : settled .board .setup ≡ setup
+    unfolding view
+    settled-setup = ap (λ (b : Board). b .setup) (sym settled-view)
+
+    pub settled-books :
+        (answer : Answer) (before left : List ℤ)
+        → (isSound (view setup d) ≡ true
+        → (answer ≡ showingAll (view setup d) before .answer) × (left ≡ showingAll (view setup d) before .slice) × (answerOf answer ≡ answerOf (showingAll (view setup d) before .answer)))
+        → (answer ≡ showingAll (settled .board) before .answer) × (left ≡ showingAll (settled .board) before .slice)
+    settled-books answer before left h =
+        let (e, f, said) = h (rw settled-view settled-sound) in
+        (rw settled-view at e, rw settled-view at f)
 
 -- ---- the figures
 
@@ -118,49 +116,35 @@ all-filled b slice left count sound e ec room =
     rw (e, sound, le-ltb (length slice) (64 * n) h) (take-first (figuresOfAll b n) (drop (length (figuresOfAll b n)) slice) count (omega (arith, length-all b n)))
 
 -- the text of the figures that a run and a drain leave
-pub settled-text :
-    (setup : Setup) (calls : List Call) → StaysSound (freshBoard setup) → (slice left : List ℤ) (count down : ℕ)
-    → settledRun setup calls drainLimit .board .setup ≡ setup → left ≡ showingAll (settledRun setup calls drainLimit .board) slice .slice
-    → down ≡ settledRun setup calls drainLimit .board .down → count ≡ 64 * setup .n → count ≤ length slice
-    → statementText (take count left) (setup .n) down ≡ statedRun (freshBoard setup) calls
-unfolding statementOf
-settled-text setup calls stays slice left count down es el ed ec room =
-    let b = settledRun setup calls drainLimit .board in
-    let n : b .setup .n ≡ setup .n = ap (λ (s : Setup). s .n) es in
-    let filled = all-filled b slice left count (settled-sound setup calls drainLimit stays) el (rw n ec) room in
-    ap (λ (l : List ℤ). statementText l (setup .n) down) filled
-    ∙ ap (λ (d : ℕ). statementText (figuresOfAll b (b .setup .n)) (setup .n) d) ed
-    ∙ ap (λ (k : ℕ). statementText (figuresOfAll b (b .setup .n)) k (b .down)) (sym n)
-    ∙ settled-stated setup calls stays
+module _ (setup : Setup) (calls : List Call) (stays : StaysSound (freshBoard setup)) where
+  abbrev last : Board
+  last = settled setup calls drainLimit stays .board
+
+  pub settled-text :
+      (slice left : List ℤ) (count down : ℕ) → last .setup ≡ setup → left ≡ showingAll last slice .slice → down ≡ last .down → count ≡ 64 * setup .n
+      → count ≤ length slice → statementText (take count left) (setup .n) down ≡ statedRun (freshBoard setup) calls
+  unfolding statementOf statedRun
+  settled-text slice left count down es el ed ec room =
+      let n : last .setup .n ≡ setup .n = ap (λ (s : Setup). s .n) es in
+      let filled = all-filled last slice left count (settled-sound setup calls drainLimit stays) el (rw n ec) room in
+      ap (λ (l : List ℤ). statementText l (setup .n) down) filled
+      ∙ ap (λ (d : ℕ). statementText (figuresOfAll last (last .setup .n)) (setup .n) d) ed
+      ∙ ap (λ (k : ℕ). statementText (figuresOfAll last (last .setup .n)) k (last .down)) (sym n)
 
 -- ---- inputs
 
-pub malformed-stated : (input : List ℕ) → wellFormed input ≡ false → refusedLine 1 ≡ stated input
-unfolding stated
-malformed-stated input f = rw f
+module _ (input : List ℕ) where
+  pub malformed-stated : wellFormed input ≡ false → refusedLine 1 ≡ stated input
+  unfolding stated
+  malformed-stated f = rw f
 
--- the start of a well-formed file, from the number of its refusal
-module _ (input : List ℕ) (setup : Setup) (why : ℕ) (t : wellFormed input ≡ true) (es : setup ≡ setupOf input)
-    (tested : why ≡ firstCause (startCauses (setup .n) (setup .f) (setup .matrix))) where
-  pub refused : why ≢ 0 → refusing blankBoard why ≡ startWith (setupOf input)
-  refused d = start-refused (setup .n) (setup .f) (setup .matrix) why blankBoard tested d refl ∙ ap startWith es
+  -- the start of a well-formed file, from the number of its refusal
+  module _ (setup : Setup) (why : ℕ) (well : wellFormed input ≡ true) (es : setup ≡ setupOf input)
+      (tested : why ≡ firstCause (startCauses (setup .n) (setup .f) (setup .matrix))) where
+    pub refused-stated : why ≢ 0 → refusedLine why ≡ stated input
+    unfolding stated statedFrom
+    refused-stated d = rw (well, sym (file-refused setup why tested input es d), ne-eqb why 0 d)
 
-  pub started : why ≡ 0 → taken (freshBoard setup) ≡ startWith (setupOf input)
-  started z = start-done (setup .n) (setup .f) (setup .matrix) why (freshBoard setup) tested z refl ∙ ap startWith es
-
-  pub refused-stated : why ≢ 0 → refusedLine why ≡ stated input
-  unfolding stated statedFrom
-  refused-stated d = rw (t, sym (refused d), ne-eqb why 0 d)
-
-  pub started-stated : why ≡ 0 → statedRun (freshBoard setup) (callsOf input) ≡ stated input
-  unfolding stated statedFrom
-  started-stated z = rw (t, sym (started z))
-
-  pub started-good : why ≡ 0 → GoodIf false (freshBoard setup)
-  unfolding running
-  started-good z =
-      let s = setupOf input in
-      let e = started z in
-      let g = reached-good (s .n) (s .f) (s .matrix) (start-accepted (s .n) (s .f) (s .matrix) (ap (λ (o : Outcome). refusalOf (o .answer)) (sym e))) [] in
-      let b = ap (λ (o : Outcome). o .board) e in
-      rw b (record { shape = g .shape; sound = g .sound; blank = λ f. absurd (never f refl) })
+    pub started-stated : why ≡ 0 → statedRun (freshBoard setup) (callsOf input) ≡ stated input
+    unfolding stated statedFrom
+    started-stated z = rw (well, sym (file-taken setup why tested input es z))

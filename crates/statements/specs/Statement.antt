@@ -8,12 +8,9 @@ use Rattle.machine.specs.declared.Board.{Board}
 use Rattle.steps.specs.declared.Call.{Call}
 use Rattle.machine.specs.declared.Outcome.{Outcome}
 use Rattle.machine.specs.Calls.{refusalOf, starting}
-use Rattle.machine.specs.Boards.{freshBoard}
 use Rattle.machine.specs.Runs.{running}
 use Rattle.machine.specs.Figures.{figuresOfAll}
-use Rattle.site.specs.declared.Setup.{Setup}
-use Rattle.drain.specs.declared.Drained.{Drained}
-use Rattle.drain.specs.Drain.{draining, drained}
+use Rattle.drain.specs.Drain.{drained}
 use Rattle.decoder.specs.RunFile.{setupOf, wellFormed, callsOf}
 use Rattle.printer.specs.Output.{refusedLine}
 use Rattle.figures_table.specs.Table.{statementText}
@@ -21,10 +18,6 @@ use Rattle.figures_table.specs.Table.{statementText}
 -- the statement of a board: its sites, their figures, and those that are down
 unfoldable pub statementOf : Board → List ℕ
 statementOf b = let n = b .setup .n in statementText (figuresOfAll b n) n (b .down)
-
--- the calls of a file from the board of its start, then a drain with a limit
-unfoldable pub settledRun : Setup → List Call → ℕ → Drained
-settledRun setup calls limit = draining limit limit 0 (running (freshBoard setup) calls)
 
 -- a drain with this limit ends quiet on every board that a run reaches
 abbrev pub drainLimit : ℕ

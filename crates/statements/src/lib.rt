@@ -5,12 +5,14 @@ ghost use mathlib.Core.Path.{_≡_};
 ghost use mathlib.Core.Bool.{false};
 ghost use Rattle.machine.specs.Boards.{freshBoard};
 ghost use Rattle.machine.specs.Calls.{refusalOf};
+ghost use Rattle.machine.specs.Runs.{running};
 ghost use Rattle.machine.specs.Figures.{showingAll};
+ghost use Rattle.drain.specs.Drain.{drained};
 ghost use Rattle.invariants.proofs.Reached.{GoodIf};
 ghost use Rattle.decoder.specs.RunFile.{eventLimit, eventCount, callsOf};
 ghost use Rattle.runfile.specs.Program.{StaysSound};
 ghost use Rattle.printer.specs.Writing.{slicePrinted, writtenOf, answerPrinted};
-ghost use Rattle.statements.specs.Statement.{settledRun, statedRun, stated};
+ghost use Rattle.statements.specs.Statement.{statedRun, stated};
 use arrays::BYTES;
 use arrays::COUNTS;
 use arrays::DOWN;
@@ -52,11 +54,11 @@ pub struct Settled {
 // The events of a file from the board of its start, a drain with the limit, and the books of all sites in the slice.
 pub fn settle(input: &[u8], setup: Setup, limit: u64, out: &mut [i64]) -> Settled
     requires { ⌜ StaysSound (freshBoard setup) × GoodIf false (freshBoard setup) × (eventCount (now input) ≤ eventLimit) ⌝ }
-    ensures { λ r. ⌜ r .count ≡ settledRun setup (callsOf (now (input .entry))) limit .count ⌝ }
-    ensures { λ r. ⌜ r .down ≡ settledRun setup (callsOf (now (input .entry))) limit .board .down ⌝ }
-    ensures { λ r. ⌜ r .why ≡ refusalOf (showingAll (settledRun setup (callsOf (now (input .entry))) limit .board) (now (out .entry)) .answer) ⌝ }
-    ensures { λ _. ⌜ settledRun setup (callsOf (now (input .entry))) limit .board .setup ≡ setup ⌝ }
-    ensures { λ _. ⌜ now (out .exit) ≡ showingAll (settledRun setup (callsOf (now (input .entry))) limit .board) (now (out .entry)) .slice ⌝ }
+    ensures { λ r. ⌜ r .count ≡ drained (running (freshBoard setup) (callsOf (now (input .entry)))) limit .count ⌝ }
+    ensures { λ r. ⌜ r .down ≡ drained (running (freshBoard setup) (callsOf (now (input .entry)))) limit .board .down ⌝ }
+    ensures { λ r. ⌜ r .why ≡ refusalOf (showingAll (drained (running (freshBoard setup) (callsOf (now (input .entry)))) limit .board) (now (out .entry)) .answer) ⌝ }
+    ensures { λ _. ⌜ drained (running (freshBoard setup) (callsOf (now (input .entry)))) limit .board .setup ≡ setup ⌝ }
+    ensures { λ _. ⌜ now (out .exit) ≡ showingAll (drained (running (freshBoard setup) (callsOf (now (input .entry)))) limit .board) (now (out .entry)) .slice ⌝ }
 {
     let mut words = [0; SETS];
     let mut counts = [0; COUNTS];

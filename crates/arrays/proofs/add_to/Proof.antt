@@ -1,3 +1,5 @@
+-- `add_to` meets its contract.
+-- Assumes nothing.
 use Prim.Native.Nat.{_%_}
 use native.Mathlib.Omega.{arith}
 use Rattle.sets.specs.MaskLaws.{one-shl}

@@ -1,3 +1,5 @@
+-- `has_in` meets its contract.
+-- Assumes nothing.
 use mathlib.Core.Path.{refl}
 use Rattle.sets.specs.Masks.{hasBit}
 use Rattle.arrays.specs.Arrays.{hasIn}

@@ -1,3 +1,5 @@
+-- `load` meets its contract.
+-- Assumes nothing.
 use Prim.Native.Nat.{_≤_, _<_, _*_, _-_}
 use mathlib.Core.Path.{_≡_, ap, _∙_}
 use mathlib.Core.List.{_++_}

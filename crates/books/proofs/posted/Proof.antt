@@ -1,6 +1,6 @@
 -- `books::posted` meets its contract: after i lines the sheet is that of the first i posting numbers.
 -- Assumes nothing.
-use mathlib.Core.Path.{_≡_, sym, ap, _∙_, subst⁻¹}
+use mathlib.Core.Path.{_≡_, sym, ap, _∙_}
 use mathlib.Core.List.{List}
 use Prim.Native.Nat.{ℕ, _+_, _≤_, _<_, _-_}
 use native.Mathlib.Omega.{arith}
@@ -11,15 +11,13 @@ use Rattle.posting.specs.declared.Posting.{Posting}
 use Rattle.posting.specs.declared.Table.{Table}
 use Rattle.posting.specs.declared.Record.{Record}
 use Rattle.posting.specs.Kinds.{accounts}
-use Rattle.posting.specs.KindLaws.{Fields}
 use Rattle.posting.specs.Records.{numbersOf}
-use Rattle.posting.specs.Conflicts.{noPosting, row}
+use Rattle.posting.specs.Conflicts.{noPosting}
 use Rattle.books.specs.Books.{Books, post, books, figuresOf, sheetOf}
 use Rattle.books.specs.declared.Figures.{Figures}
 use Rattle.books.specs.declared.Sheet.{Sheet}
-use Rattle.books.specs.Bounds.{After, Postable}
-use Rattle.books.proofs.Lines.{next-line}
-use Rattle.books.proofs.Sheets.{Line, line, room-a, room-b, sheet-is, line-within, line-fields, lines-after}
+use Rattle.books.specs.Bounds.{Postable}
+use Rattle.books.proofs.Sheets.{Line, line, room-a, room-b, sheet-is, number-within, line-begins, line-posted}
 use Rattle.books.proofs.posted.Statement.{statement}
 use Rattle.books.proofs.posted.Tie as tie
 
@@ -45,54 +43,35 @@ module _ (c : tie.After-wide Inv-loop μ-loop) where
   abbrev i : ℕ
   i = c .before .before .before .loop .i
 
-  -- the books of the first n lines
-  abbrev books-to : ℕ → Books
-  books-to n = books opening table (take n (delivered .numbers))
-
   abbrev posting : Posting
   posting = getD (table .rows) (c .wide .result) noPosting
 
+  here : i < delivered .count
+  here = c .before .before .loop-test .taken
+
+  long : length (delivered .numbers) ≡ capacity
+  long = search needs
+
   within : c .wide .result < capacity
-  within = rw (c .wide .ensures) (line-within table delivered postable i (c .before .before .loop-test .taken))
+  within = number-within table delivered postable opening (c .before .before .before .before .pre .1) long i here _ (c .wide .ensures)
 
-  posting-is : posting ≡ row table (getD (delivered .numbers) i 0)
-  unfolding row
-  posting-is = ap (λ (m : ℕ). getD (table .rows) m noPosting) (c .wide .ensures)
-
-  ok : Fields posting
-  ok = subst⁻¹ (λ (p : Posting). Fields p) posting-is (line-fields table delivered postable i (c .before .before .loop-test .taken))
-
-  early : i < capacity
-  early = omega (arith, c .before .before .loop-test .taken, postable .within)
-
-  bounded : (k : ℕ) → k < accounts → After i (books-to i k)
-  bounded =
-      let e : length (delivered .numbers) ≡ capacity = search needs in
-      lines-after table delivered postable opening (c .before .before .before .before .pre .1) i (c .before .before .before .loop .inv .0) (omega (arith, early))
-
-  next : post posting (books-to i) ≡ books-to (i + 1)
-  next =
-      let e : length (delivered .numbers) ≡ capacity = search needs in
-      ap (λ (p : Posting). post p (books-to i)) posting-is ∙ next-line opening table (delivered .numbers) i (omega (arith, early))
+  next : post posting (books opening table (take i (delivered .numbers))) ≡ books opening table (take (i + 1) (delivered .numbers))
+  next = line-posted table delivered postable opening (c .before .before .before .before .pre .1) long i here _ (c .wide .ensures)
 
 module _ (c : tie.After-wide2 Inv-loop μ-loop) where
   abbrev at-wide : tie.After-wide Inv-loop μ-loop
   at-wide = c .before .before
 
-  a-within : c .wide2 .result < accounts
-  a-within = omega (arith, ok at-wide .first, c .wide2 .ensures)
+  start : Line (i at-wide) (books (opening at-wide) (table at-wide) (take (i at-wide) (delivered at-wide .numbers))) (posting at-wide) (at-wide .before .before .before .loop .sheet .accounts) (c .wide2 .result)
+  start =
+      line-begins (table at-wide) (delivered at-wide) (postable at-wide) (opening at-wide) (at-wide .before .before .before .before .pre .1) (long at-wide) (i at-wide) (here at-wide) _ (at-wide .wide .ensures) _ _
+      (ap (λ (x : Sheet). x .accounts) (at-wide .before .before .before .loop .inv .1)) (c .wide2 .ensures)
 
-  start : Line (i at-wide) (books-to at-wide (i at-wide)) (posting at-wide) (at-wide .before .before .before .loop .sheet .accounts) (c .wide2 .result)
-  start = record {
-    early = early at-wide;
-    bounded = bounded at-wide;
-    ok = ok at-wide;
-    from = ap (λ (x : Sheet). x .accounts) (at-wide .before .before .before .loop .inv .1);
-    first = c .wide2 .ensures;
-  }
+  a-within : c .wide2 .result < accounts
+  a-within = omega (arith, start .ok .first, c .wide2 .ensures)
 
 b-within : (c : tie.After-wide3 Inv-loop μ-loop) → c .wide3 .result < accounts
-b-within c = omega (arith, ok (c .before .before .before .before .before) .second, c .wide3 .ensures)
+b-within c = omega (arith, start (c .before .before .before) .ok .second, c .wide3 .ensures)
 
 loop-holds : tie.Need-loop-holds Inv-loop μ-loop
 unfolding books

@@ -14,20 +14,18 @@ same-length c = search needs
 
 returns : tie.Need-returns
 returns c =
-    let start = c .before .before .before .before .before .before in
-    let g = start .args in
+    let g = c .before .before .before .before .before .before .args in
     let done = c .before .before .before .settle in
-    no-room (g .setup) (callsOf (g .input .now)) (g .limit) (start .pre .0) (g .out .now) _ _ _ (done .ensures .0) (done .ensures .1 .1 .0) (done .ensures .1 .1 .1 .1) (c .if1 .taken)
+    no-room (g .setup) (callsOf (g .input .now)) (g .limit) (g .out .now) _ _ _ (done .ensures .0) (done .ensures .1 .1 .0) (done .ensures .1 .1 .1 .1) (c .if1 .taken)
 
 same-length-2 : tie.Need-same-length-2
 same-length-2 c = search needs
 
 returns-2 : tie.Need-returns-2
 returns-2 c =
-    let start = c .before .before .before .before .before .before in
-    let g = start .args in
+    let g = c .before .before .before .before .before .before .args in
     let done = c .before .before .before .settle in
-    all-done (g .setup) (callsOf (g .input .now)) (g .limit) (start .pre .0) (g .out .now) _ _ _ (done .ensures .0) (done .ensures .1 .1 .0) (done .ensures .1 .1 .1 .1) (c .if1 .left)
+    all-done (g .setup) (callsOf (g .input .now)) (g .limit) (g .out .now) _ _ _ (done .ensures .0) (done .ensures .1 .1 .0) (done .ensures .1 .1 .1 .1) (c .if1 .left)
 
 pub drain-from-spec : {M : Type 1} → statement M
 drain-from-spec = tie.close (tie.spec settle-requires same-length returns same-length-2 returns-2)

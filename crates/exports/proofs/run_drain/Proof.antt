@@ -1,8 +1,7 @@
 -- `run_drain` meets its contract.
 -- Assumes nothing.
 use mathlib.Core.Path.{sym, ap, _∙_}
-use Rattle.runfile.proofs.Programs.{few-events, file-stays}
-use Rattle.statements.proofs.Stated.{started-good}
+use Rattle.runfile.proofs.Programs.{few-events, start-stays, start-good}
 use Rattle.by_value.proofs.DrainLaws.{malformed-none}
 use Rattle.exports.proofs.DrainLaws.{refused-none, started-drains}
 use borrow.Author.Needs.{needs}
@@ -27,8 +26,8 @@ drain-from-requires : tie.Need-drain-from-requires
 drain-from-requires c κs =
     let input = c .before .before .before .before .before .before .before .args .input .now in
     let well = sym (c .before .before .before .before .before .well-formed .ensures) ∙ c .before .before .before .before .if1 .taken in (
-      file-stays input _ _ well (c .before .before .before .setup-of .ensures) (c .before .before .start-refusal .ensures) (c .before .if2 .left),
-      started-good input _ _ well (c .before .before .before .setup-of .ensures) (c .before .before .start-refusal .ensures) (c .before .if2 .left),
+      start-stays _ _ (c .before .before .start-refusal .ensures) (c .before .if2 .left),
+      start-good _ _ (c .before .before .start-refusal .ensures) (c .before .if2 .left),
       few-events input well,
     )
 

@@ -1,7 +1,7 @@
 -- `run_events` meets its contract.
 -- Assumes nothing.
 use mathlib.Core.Path.{sym, ap, _∙_}
-use Rattle.runfile.proofs.Programs.{few-events, file-stays}
+use Rattle.runfile.proofs.Programs.{few-events, start-stays}
 use Rattle.exports.proofs.NumberLaws.{malformed-not-run, refused-not-run, started-runs}
 use borrow.Author.Needs.{needs}
 use Rattle.exports.proofs.run_events.Statement.{statement}
@@ -25,7 +25,7 @@ answer-from-requires : tie.Need-answer-from-requires
 answer-from-requires c κs =
     let input = c .before .before .before .before .before .before .before .before .args .input .now in
     let well = sym (c .before .before .before .before .before .well-formed .ensures) ∙ c .before .before .before .before .if1 .taken in
-    (file-stays input _ _ well (c .before .before .before .setup-of .ensures) (c .before .before .start-refusal .ensures) (c .before .if2 .left), few-events input well)
+    (start-stays _ _ (c .before .before .start-refusal .ensures) (c .before .if2 .left), few-events input well)
 
 same-length : tie.Need-same-length
 same-length c = search needs

@@ -1,7 +1,7 @@
 -- `settle` meets its contract.
 -- Assumes nothing.
 use Prim.Native.Nat.{ℕ}
-use mathlib.Core.Path.{_≡_, refl, ap, _∙_}
+use mathlib.Core.Path.{_≡_, ap, _∙_}
 use mathlib.Core.List.{List}
 use mathlib.Core.Bool.{true}
 use native.Mathlib.Omega.{arith}
@@ -18,8 +18,8 @@ use Rattle.invariants.proofs.Reached.{run-good}
 use Rattle.machine.proofs.Fresh.{fresh-shown, fresh-right}
 use Rattle.machine.proofs.Gives.{few-sites}
 use Rattle.shown.proofs.Showing.{may-post-at}
-use Rattle.drain.specs.Drain.{draining}
 use Rattle.decoder.specs.RunFile.{callsOf}
+use Rattle.runfile.specs.Program.{StaysSound}
 use Rattle.runfile.proofs.Runs.{fresh-run}
 use Rattle.statements.proofs.Stated.{settled-sound, settled-view, settled-count, settled-down, settled-setup, settled-books}
 use borrow.Author.Needs.{needs}
@@ -68,9 +68,12 @@ left c =
     let l = c .drain-events .last in
     arrays (l .0) (l .1 .0) (l .1 .1 .0) (l .1 .1 .1 .0) (l .1 .1 .1 .1 .0) (l .1 .1 .1 .1 .1 .0) (l .1 .1 .1 .1 .1 .1 .0)
 
+stays : (c : Drained) → StaysSound (freshBoard (setup (c .before .before .before .before .before .before .before .before .before)))
+stays c = c .before .before .before .before .before .before .before .before .before .before .before .before .before .before .before .before .before .before .before .before .pre .0
+
 sound : (c : Drained) → isSound (view (setup (c .before .before .before .before .before .before .before .before .before)) (left c)) ≡ true
 sound c =
-    rw (settled-view (setup (c .before .before .before .before .before .before .before .before .before)) (calls (c .before .before .before .before .before .before .before .before .before)) (limit c) (after-run (c .before .before .before .before .before .before .before .before .before)) (left c) (run (c .before .before .before .before .before .before .before .before .before)) (c .drain-events .ensures .0)) (settled-sound (setup (c .before .before .before .before .before .before .before .before .before)) (calls (c .before .before .before .before .before .before .before .before .before)) (limit c) (c .before .before .before .before .before .before .before .before .before .before .before .before .before .before .before .before .before .before .before .before .pre .0))
+    rw (settled-view (setup (c .before .before .before .before .before .before .before .before .before)) (calls (c .before .before .before .before .before .before .before .before .before)) (limit c) (stays c) (after-run (c .before .before .before .before .before .before .before .before .before)) (left c) (run (c .before .before .before .before .before .before .before .before .before)) (c .drain-events .ensures .0)) (settled-sound (setup (c .before .before .before .before .before .before .before .before .before)) (calls (c .before .before .before .before .before .before .before .before .before)) (limit c) (stays c))
 
 drain-events-requires : tie.Need-drain-events-requires
 drain-events-requires c κs =
@@ -102,11 +105,11 @@ returns c =
     let d = left at in
     let r = run (at .before .before .before .before .before .before .before .before .before) in
     let done = at .drain-events .ensures in
-    let books = settled-books s l (limit at) a d r (done .0) (start .pre .0) _ (start .args .out .now) _ (c .before .before .books-all-at .ensures (d .sets) (d .masks) (d .good) (d .carried)) in (
-      settled-count s l (limit at) a d r (done .0) _ (done .1 .0),
+    let books = settled-books s l (limit at) (stays at) a d r (done .0) _ (start .args .out .now) _ (c .before .before .books-all-at .ensures (d .sets) (d .masks) (d .good) (d .carried)) in (
+      settled-count s l (limit at) (stays at) a d r (done .0) _ (done .1 .0),
       (
-        settled-down s l (limit at) a d r (done .0),
-        (c .refusal-of .ensures ∙ ap refusalOf (books .0), (settled-setup s l (limit at) a d r (done .0), books .1)),
+        settled-down s l (limit at) (stays at) a d r (done .0),
+        (c .refusal-of .ensures ∙ ap refusalOf (books .0), (settled-setup s l (limit at) (stays at) a d r (done .0), books .1)),
       ),
     )
 

@@ -1,8 +1,8 @@
 -- `statement` meets its contract.
 -- Assumes nothing.
-use mathlib.Core.Path.{_≡_, sym, _∙_}
-use Rattle.runfile.proofs.Programs.{few-events, printed-as, file-stays}
-use Rattle.statements.proofs.Stated.{malformed-stated, refused-stated, started-stated, started-good}
+use mathlib.Core.Path.{sym, _∙_}
+use Rattle.runfile.proofs.Programs.{few-events, printed-as, start-stays, start-good}
+use Rattle.statements.proofs.Stated.{malformed-stated, refused-stated, started-stated}
 use borrow.Author.Needs.{needs}
 use Rattle.statements.proofs.statement.Statement.{statement}
 use Rattle.statements.proofs.statement.Tie as tie
@@ -32,8 +32,8 @@ state-from-requires : tie.Need-state-from-requires
 state-from-requires c κs =
     let input = c .before .before .before .before .before .before .before .before .args .input .now in
     let well = sym (c .before .before .before .before .before .well-formed .ensures) ∙ c .before .before .before .before .if1 .taken in (
-      file-stays input _ _ well (c .before .before .before .setup-of .ensures) (c .before .before .start-refusal .ensures) (c .before .if2 .left),
-      started-good input _ _ well (c .before .before .before .setup-of .ensures) (c .before .before .start-refusal .ensures) (c .before .if2 .left),
+      start-stays _ _ (c .before .before .start-refusal .ensures) (c .before .if2 .left),
+      start-good _ _ (c .before .before .start-refusal .ensures) (c .before .if2 .left),
       few-events input well,
     )
 

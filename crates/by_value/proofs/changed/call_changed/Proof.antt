@@ -4,7 +4,7 @@ use mathlib.Core.Path.{sym, ap, _∙_}
 use native.Mathlib.Omega.{arith}
 use lib.ListN.{length}
 use Rattle.machine.specs.declared.Board.{Board}
-use Rattle.runfile.proofs.Programs.{few-events, file-stays}
+use Rattle.runfile.proofs.Programs.{few-events, start-stays}
 use Rattle.by_value.specs.Changed.{changedAt}
 use Rattle.by_value.proofs.CallLaws.{well, has-room, ten-bytes, none-called, refused-none, started-calls}
 use borrow.Author.Needs.{needs}
@@ -30,7 +30,7 @@ board-after-requires : tie.Need-board-after-requires
 board-after-requires c κs =
     let g = c .before .before .before .before .before .before .before .before .args in
     let ok = well (g .input .now) (g .event .now) (length (g .board .now)) (sym (c .before .before .before .before .may-call .ensures) ∙ c .before .before .before .if1 .taken) in
-    (file-stays (g .input .now) _ _ ok (c .before .before .setup-of .ensures) (c .before .start-refusal .ensures) (c .if2 .left), few-events (g .input .now) ok)
+    (start-stays _ _ (c .before .start-refusal .ensures) (c .if2 .left), few-events (g .input .now) ok)
 
 changed-requires : tie.Need-changed-requires
 changed-requires c κs = search needs

@@ -1,47 +1,36 @@
 -- `put` meets its contract.
 -- Assumes nothing.
-use mathlib.Core.Path.{refl, sym}
-use Prim.Native.Nat.{_<_}
+use mathlib.Core.Path.{sym}
 use lib.Seq.{set-out}
 use borrow.Author.Tests.{lt-ltb, le-ltb}
 use borrow.Author.Needs.{needs}
-use native.Mathlib.Omega.{arith}
 use Rattle.printer.specs.Writing.{lastPlace, after, putting}
 use Rattle.printer.proofs.print.put.Statement.{statement}
 use Rattle.printer.proofs.print.put.Tie as tie
 
-slice-write-out : tie.Need-slice-write-out
-slice-write-out c = search needs
-
-add-result : tie.Need-add-result
-add-result c = search needs
+put-in-requires : tie.Need-put-in-requires
+put-in-requires c κs = search needs
 
 same-length : tie.Need-same-length
 same-length c = search needs
 
 returns : tie.Need-returns
-unfolding after putting
-returns c =
-    let at = c .before .args .at in
-    let low : at < lastPlace = omega arith in
-    record { moved = rw (lt-ltb at lastPlace low); holds = refl }
+returns c = search needs
 
-add-result-2 : tie.Need-add-result-2
-add-result-2 c = search needs
+add-result : tie.Need-add-result
+add-result c = search needs
 
 returns-2 : tie.Need-returns-2
 unfolding after putting
 returns-2 c =
-    let args = c .before .before .args in
+    let args = c .before .before .before .args in
     record { moved = rw (lt-ltb (args .at) lastPlace (c .if2 .taken)); holds = sym (set-out (args .out .now) (args .at) (args .byte) (c .before .if1 .left)) }
 
 returns-3 : tie.Need-returns-3
 unfolding after putting
 returns-3 c =
-    let args = c .before .before .args in
+    let args = c .before .before .before .args in
     record { moved = rw (le-ltb (args .at) lastPlace (c .if2 .left)); holds = sym (set-out (args .out .now) (args .at) (args .byte) (c .before .if1 .left)) }
 
 pub put-spec : {M : Type 1} → statement M
-put-spec =
-    tie.close
-    (tie.spec slice-write-out add-result same-length returns add-result-2 returns-2 returns-3)
+put-spec = tie.close (tie.spec put-in-requires same-length returns add-result returns-2 returns-3)

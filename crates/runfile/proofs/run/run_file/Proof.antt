@@ -1,7 +1,7 @@
 -- `run_file` meets its contract.
 -- Assumes nothing.
-use mathlib.Core.Path.{_≡_, sym, _∙_}
-use Rattle.runfile.proofs.Programs.{few-events, printed-as, malformed-printed, file-refused, file-run, file-stays}
+use mathlib.Core.Path.{sym, _∙_}
+use Rattle.runfile.proofs.Programs.{few-events, printed-as, malformed-printed, refused-printed, taken-printed, start-stays}
 use borrow.Author.Needs.{needs}
 use Rattle.runfile.proofs.run.run_file.Statement.{statement}
 use Rattle.runfile.proofs.run.run_file.Tie as tie
@@ -25,13 +25,13 @@ returns : tie.Need-returns
 returns c =
     let g = c .before .before .before .before .before .before .before .before .before .before .before .args in
     let well = sym (c .before .before .before .before .before .before .before .before .well-formed .ensures) ∙ c .before .before .before .before .before .before .before .if1 .taken in
-    printed-as (g .out .now) (file-refused (g .input .now) _ _ well (c .before .before .before .before .before .before .setup-of .ensures) (c .before .before .before .before .before .start-refusal .ensures) (c .before .before .before .before .if2 .taken)) (c .before .before .print-refused .ensures)
+    printed-as (g .out .now) (refused-printed _ _ (c .before .before .before .before .before .start-refusal .ensures) (g .input .now) (c .before .before .before .before .before .before .setup-of .ensures) well (c .before .before .before .before .if2 .taken)) (c .before .before .print-refused .ensures)
 
 run-from-requires : tie.Need-run-from-requires
 run-from-requires c κs =
     let g = c .before .before .before .before .before .before .before .before .args in
     let well = sym (c .before .before .before .before .before .well-formed .ensures) ∙ c .before .before .before .before .if1 .taken in
-    (file-stays (g .input .now) _ _ well (c .before .before .before .setup-of .ensures) (c .before .before .start-refusal .ensures) (c .before .if2 .left), few-events (g .input .now) well)
+    (start-stays _ _ (c .before .before .start-refusal .ensures) (c .before .if2 .left), few-events (g .input .now) well)
 
 same-length-2 : tie.Need-same-length-2
 same-length-2 c = search needs
@@ -40,7 +40,7 @@ returns-2 : tie.Need-returns-2
 returns-2 c =
     let g = c .before .before .before .before .before .before .before .before .before .before .before .args in
     let well = sym (c .before .before .before .before .before .before .before .before .well-formed .ensures) ∙ c .before .before .before .before .before .before .before .if1 .taken in
-    printed-as (g .out .now) (file-run (g .input .now) _ _ well (c .before .before .before .before .before .before .setup-of .ensures) (c .before .before .before .before .before .start-refusal .ensures) (c .before .before .before .before .if2 .left)) (c .before .before .run-from .ensures)
+    printed-as (g .out .now) (taken-printed _ _ (c .before .before .before .before .before .start-refusal .ensures) (g .input .now) (c .before .before .before .before .before .before .setup-of .ensures) well (c .before .before .before .before .if2 .left)) (c .before .before .run-from .ensures)
 
 print-refused-requires-2 : tie.Need-print-refused-requires-2
 print-refused-requires-2 c κs = search needs

@@ -1,0 +1,16 @@
+-- What a call over a file and a slice gives: a count, and the slice.
+-- Rests on nothing.
+use Prim.Native.Nat.{ℕ}
+use mathlib.Core.List.{List}
+
+-- the answer where there is no count: 2^64 − 1, which is no slice's length
+abbrev pub noCount : ℕ
+noCount = 18_446_744_073_709_551_615
+
+pub record Counted (A : Type 0) : Type 0 where
+  pub count : ℕ
+  pub slice : List A
+
+-- nothing done, and the slice as it was
+abbrev pub notDone : {A : Type 0} → List A → Counted A
+notDone slice = record { count = noCount; slice = slice }
