@@ -1,6 +1,6 @@
 -- The cell that the code takes for the next floor; what a receipt sends stands from it on, so that it is a floor of the flight that is left.
 -- Rests on Firsts, on site's steps by mask and on flight's laws of floors. Assumes nothing.
-use Prim.Native.Nat.{ℕ, _<_, _≤_}
+use Prim.Native.Nat.{ℕ, _+_, _*_, _<_, _≤_}
 use mathlib.Core.Path.{_≡_, refl, ap, _∙_}
 use mathlib.Core.Logic.{_⊎_, inl, inr}
 use mathlib.Core.Bool.{Bool, true, false, cond}
@@ -25,7 +25,7 @@ use Rattle.site.specs.Sites.{heardFor, goodFor, siteHeard}
 use Rattle.site.specs.Sends.{FIRST, SECOND, THIRD, DELIVER}
 use Rattle.site.specs.Steps.{majority}
 use Rattle.site.specs.ByMask.{ENTRY, reached, late, noStepByMask, firstByMask, stepSecondByMask, secondByMask, finishSends, stepThirdByMask, talliedByMask, thirdByMask, deliverByMask}
-use Rattle.flight.specs.Flights.{isCell, cellAt, sendingTo, takingFrom}
+use Rattle.flight.specs.Flights.{pairs, isCell, cellAt, sendingTo, takingFrom}
 use Rattle.flight.specs.CellLaws.{cell-in, cell-out, cell-below}
 use Rattle.flight.specs.ArrayLaws.{sending-none}
 use Rattle.flight.specs.FloorLaws.{NoneBelow, sending-below, taking-below}
@@ -35,30 +35,34 @@ use Rattle.drain.specs.Firsts.{floorAfter}
 
 -- ---- as the code finds it
 
-module _ (form m from to taken : ℕ) (t : taken ≡ cellAt form m from) where
-  pub floor-early : form < DELIVER → taken ≡ floorAfter form m from to
+module _ (taken form m to : ℕ) where
+  pub floor-early : form < DELIVER → taken ≡ floorAfter taken form m to
   unfolding floorAfter
-  floor-early h = rw (lt-ltb form DELIVER h) t
+  floor-early h = rw (lt-ltb form DELIVER h)
 
   -- of a DELIVER the lower of two cells
   module _ (late : DELIVER ≤ form) (relayed : ℕ) (r : relayed ≡ cellAt form m to) where
-    pub floor-lower : relayed < taken → relayed ≡ floorAfter form m from to
+    pub floor-lower : relayed < taken → relayed ≡ floorAfter taken form m to
     unfolding floorAfter
-    floor-lower l = rw (le-ltb form DELIVER late) (omega (arith, l, t, r))
+    floor-lower l = rw (le-ltb form DELIVER late) (omega (arith, l, r))
 
-    pub floor-higher : taken ≤ relayed → taken ≡ floorAfter form m from to
+    pub floor-higher : taken ≤ relayed → taken ≡ floorAfter taken form m to
     unfolding floorAfter
-    floor-higher l = rw (le-ltb form DELIVER late) (omega (arith, l, t, r))
+    floor-higher l = rw (le-ltb form DELIVER late) (omega (arith, l, r))
+
+-- the floor that the receipt of a message leaves
+abbrev pub floorLeft : ℕ → ℕ → ℕ → ℕ → ℕ
+floorLeft form m from to = floorAfter (cellAt form m from) form m to
 
 module _ (form m from to : ℕ) where
-  floor-taken : floorAfter form m from to ≤ cellAt form m from
+  floor-taken : floorLeft form m from to ≤ cellAt form m from
   unfolding floorAfter
   floor-taken = elim (test (ltb form DELIVER)) [
     | inl e ↦ rw e (omega arith)
     | inr e ↦ rw e (omega arith)
   ]
 
-  floor-relayed : DELIVER ≤ form → floorAfter form m from to ≤ cellAt form m to
+  floor-relayed : DELIVER ≤ form → floorLeft form m from to ≤ cellAt form m to
   unfolding floorAfter
   floor-relayed h = rw (le-ltb form DELIVER h) (omega arith)
 
@@ -118,39 +122,50 @@ module _ (form m from to : ℕ) (at : Placed form m from to) where
         omega (arith, cell-out sent m to past, cell-below form m from (at .form-below) (at .posting-below) (at .from-below))
   ]
 
-  floor-later : (sent : ℕ) → form < sent → floorAfter form m from to ≤ cellAt sent m to
+  floor-later : (sent : ℕ) → form < sent → floorLeft form m from to ≤ cellAt sent m to
   floor-later sent h = omega (arith, later sent h, floor-taken form m from to)
 
-  floor-relay : form ≡ DELIVER → floorAfter form m from to ≤ cellAt DELIVER m to
+  floor-relay : form ≡ DELIVER → floorLeft form m from to ≤ cellAt DELIVER m to
   floor-relay e = rw (← e) (floor-relayed form m from to (omega arith))
 
+  -- it stands among the cells of the message's form
+  pub floor-in-form : (form * pairs ≤ floorLeft form m from to) × (floorLeft form m from to ≤ (form + 1) * pairs)
+  unfolding floorAfter
+  floor-in-form =
+      let taken = cell-in form m from (at .form-below) (at .posting-below) (at .from-below) in
+      let relayed = cell-in form m to (at .form-below) (at .posting-below) (at .to-below) in
+      elim (test (ltb form DELIVER)) [
+        | inl e ↦ rw e (omega (arith, taken), omega (arith, taken, at .posting-below, at .from-below))
+        | inr e ↦ rw e (omega (arith, taken, relayed), omega (arith, taken, relayed, at .posting-below, at .from-below))
+      ]
+
   module _ (setup : Setup) (table : Table) (site : Site) (tally : Tally) (good : Bool) (carried : Set) where
-    pub receipt-above : Above (floorAfter form m from to) m to (receiptByMask setup table site tally form m from to good carried .sends)
+    pub receipt-above : Above (floorLeft form m from to) m to (receiptByMask setup table site tally form m from to good carried .sends)
     unfolding receiptByMask
     receipt-above = elim (ℕ-discrete form FIRST) [
-      | yes e ↦ rw (eq-eqb form FIRST e) (first-above (floorAfter form m from to) m to setup table site tally (floor-later SECOND (omega arith)))
+      | yes e ↦ rw (eq-eqb form FIRST e) (first-above (floorLeft form m from to) m to setup table site tally (floor-later SECOND (omega arith)))
       | no d0 ↦ rw (ne-eqb form FIRST d0) (elim (ℕ-discrete form SECOND) [
-        | yes e ↦ rw (eq-eqb form SECOND e) (second-above (floorAfter form m from to) m to setup table site tally (floor-later THIRD (omega arith)) from good)
+        | yes e ↦ rw (eq-eqb form SECOND e) (second-above (floorLeft form m from to) m to setup table site tally (floor-later THIRD (omega arith)) from good)
         | no d1 ↦ rw (ne-eqb form SECOND d1) (elim (ℕ-discrete form THIRD) [
-          | yes e ↦ rw (eq-eqb form THIRD e) (third-above (floorAfter form m from to) m to setup table site tally (floor-later DELIVER (omega arith)) (floor-later ENTRY (omega arith)) from carried)
-          | no d2 ↦ rw (ne-eqb form THIRD d2) (deliver-above (floorAfter form m from to) m to setup table site tally (floor-relay (omega (arith, at .form-below, d0, d1, d2))))
+          | yes e ↦ rw (eq-eqb form THIRD e) (third-above (floorLeft form m from to) m to setup table site tally (floor-later DELIVER (omega arith)) (floor-later ENTRY (omega arith)) from carried)
+          | no d2 ↦ rw (ne-eqb form THIRD d2) (deliver-above (floorLeft form m from to) m to setup table site tally (floor-relay (omega (arith, at .form-below, d0, d1, d2))))
         ])
       ])
     ]
 
 -- ---- the cells below it stay as they were
 
-module _ (form m from to : ℕ) (masks : List ℕ) (s : Sends) (above : Above (floorAfter form m from to) m to s) where
+module _ (form m from to : ℕ) (masks : List ℕ) (s : Sends) (above : Above (floorLeft form m from to) m to s) where
   abbrev passed : List ℕ
   passed = sendingTo (takingFrom masks form m from to) (s .form) m to (s .to)
 
-  below-sent : (k : ℕ) → k < floorAfter form m from to → getD passed k 0 ≡ getD (takingFrom masks form m from to) k 0
+  below-sent : (k : ℕ) → k < floorLeft form m from to → getD passed k 0 ≡ getD (takingFrom masks form m from to) k 0
   below-sent k h = elim above [
     | inl z ↦ rw (z, sending-none (takingFrom masks form m from to) (s .form) m to)
     | inr l ↦ let b : k < cellAt (s .form) m to = omega (arith, h, l) in sending-below (takingFrom masks form m from to) (s .form) m to k b (s .to)
   ]
 
-  pub passed-floor : (up : ℕ) → NoneBelow masks up (cellAt form m from) → NoneBelow passed up (floorAfter form m from to)
+  pub passed-floor : (up : ℕ) → NoneBelow masks up (cellAt form m from) → NoneBelow passed up (floorLeft form m from to)
   passed-floor up low k h =
       let l : k < cellAt form m from = omega (arith, h, floor-taken form m from to) in
       ap (λ (w : ℕ). bitAnd w up) (below-sent k h ∙ taking-below masks form m from k l to) ∙ low k l

@@ -5,5 +5,6 @@ pub mod Pooled
 pub mod Nexts
 pub mod NextEvent
 pub mod Floor
+pub mod Offered
 pub mod Loop
 pub mod Turn

@@ -1,6 +1,6 @@
 -- Drain's loop on a board by value: one event more, and the ends; which event is next, from the results of the code's search; and the floor that an
 -- event leaves. Rests on NextEvent and Floor, on machine's laws and on invariants. Assumes nothing.
-use Prim.Native.Nat.{ℕ, zero, suc, _+_, _-_, _^_, _<_, _≤_}
+use Prim.Native.Nat.{ℕ, zero, suc, _+_, _*_, _-_, _^_, _<_, _≤_}
 use mathlib.Core.Path.{_≡_, refl, sym, ap, _∙_, subst}
 use mathlib.Core.Logic.{_⊎_, inl, inr, _≢_}
 use mathlib.Core.Bool.{Bool, true, false}
@@ -13,7 +13,7 @@ use Rattle.site.specs.Sites.{sites}
 use Rattle.site.specs.Steps.{ownerOf}
 use Rattle.flight.specs.declared.Found.{Found}
 use Rattle.flight.specs.declared.Found.the-variants.{Nothing, Message}
-use Rattle.flight.specs.Flights.{cells, cellAt, sendingMask, takingOut, lowestFrom, lowestIn, lowest}
+use Rattle.flight.specs.Flights.{pairs, cells, cellAt, sendingMask, takingOut, lowestFrom, lowestIn, lowest}
 use Rattle.flight.specs.FloorLaws.{NoneBelow, floor-search, message-floor, nothing-floor}
 use Rattle.site.specs.declared.Setup.{Setup}
 use Rattle.arrays.specs.Arrays.{Arrays}
@@ -34,9 +34,8 @@ use Rattle.invariants.proofs.Reached.{GoodIf, good-sites, good-flight, call-goo
 use Rattle.drain.specs.declared.Ending.{Ending}
 use Rattle.drain.specs.declared.Ending.the-variants.{Quiet, Spent}
 use Rattle.drain.specs.declared.Drained.{Drained}
-use Rattle.drain.specs.Firsts.{floorAfter}
 use Rattle.drain.specs.Drain.{Next, none, event, nextOrder, nextAfter, nextEvent, draining}
-use Rattle.drain.proofs.Floor.{receipt-above, passed-floor}
+use Rattle.drain.proofs.Floor.{floorLeft, floor-in-form, receipt-above, passed-floor}
 use Rattle.drain.proofs.NextEvent.{next-accepted, next-none, quiet-next, not-none}
 
 -- ---- one event more, and the ends
@@ -145,7 +144,10 @@ one-more board limit b count floor k c e d after a next low = record {
   low = low;
 }
 
--- ---- the floor that an event leaves
+-- ---- the floor that an event leaves, and the postings offered, which it leaves as they were
+
+abbrev pub Left : Board → Board → ℕ → Type 0
+Left b after floor = Floor after floor × (after .table ≡ b .table)
 
 module _ {clean : Bool} (b : Board) (g : GoodIf clean b) where
   module _ (form m from to : ℕ) (next : nextEvent b ≡ event (Receive form m from to Whole)) where
@@ -163,25 +165,28 @@ module _ {clean : Bool} (b : Board) (g : GoodIf clean b) where
         let is = receipt-is b form m from to (good-sites b g) (at .from-below) owner in
         received .board ∙ rw (sym is) (whole-is (boardFlight b (takingOut (b .flight) form m from to)) to m (receipt b form m from to) (receipt-fits b form m from to))
 
-    pub receive-low : Floor b (cellAt form m from) → Floor (taking b (Receive form m from to Whole) .board) (floorAfter form m from to)
+    pub receive-low : Floor b (cellAt form m from) → Left b (taking b (Receive form m from to Whole) .board) (floorLeft form m from to)
     unfolding placed sendingMask takingOut
     receive-low low =
         let s = receipt b form m from to .sends in
         let above = receipt-above form m from to at (b .setup) (b .table) (siteAt b to) (tallyAt b m) _ _ in
-        subst (λ (x : Board). Floor x (floorAfter form m from to)) (sym receive-does) (passed-floor form m from to (b .flight .masks) s above (upByte (b .setup .n) (b .down)) low)
+        subst (λ (x : Board). Left b x (floorLeft form m from to)) (sym receive-does) (passed-floor form m from to (b .flight .masks) s above (upByte (b .setup .n) (b .down)) low, refl)
 
-  pub order-low : (m : ℕ) → nextEvent b ≡ event (Order m) → Floor b cells → Floor (taking b (Order m) .board) cells
+    pub receive-in-form : (form * pairs ≤ floorLeft form m from to) × (floorLeft form m from to ≤ (form + 1) * pairs)
+    receive-in-form = floor-in-form form m from to at
+
+  pub order-low : (m : ℕ) → nextEvent b ≡ event (Order m) → Floor b cells → Left b (taking b (Order m) .board) cells
   unfolding taking
-  order-low m next low = subst (λ (x : Board). Floor x cells) (sym (order-taken b m (unfold taking in (next-accepted b g (Order m) next .0)) .board)) low
+  order-low m next low = subst (λ (x : Board). Left b x cells) (sym (order-taken b m (unfold taking in (next-accepted b g (Order m) next .0)) .board)) (low, refl)
 
-  pub read-low : (p : ℕ) → nextEvent b ≡ event (Read p Whole) → Floor b cells → Floor (taking b (Read p Whole) .board) cells
+  pub read-low : (p : ℕ) → nextEvent b ≡ event (Read p Whole) → Floor b cells → Left b (taking b (Read p Whole) .board) cells
   unfolding taking
   read-low p next low = go (read-taken b p Whole (unfold taking in (next-accepted b g (Read p Whole) next .0)))
     where
-      go : ReadTaken b p Whole → Floor (reading b p Whole .board) cells
+      go : ReadTaken b p Whole → Left b (reading b p Whole .board) cells
       go k =
           let place : siteAt b p .place < capacity = omega (arith, k .left, g .sound .log .within) in
-          subst (λ (x : Board). Floor x cells) (sym (k .board ∙ read-whole b p (nextLogged b p) (entryAt b (nextLogged b p)) place)) low
+          subst (λ (x : Board). Left b x cells) (sym (k .board ∙ read-whole b p (nextLogged b p) (entryAt b (nextLogged b p)) place)) (low, refl)
 
 -- ---- what a drain hands back
 

@@ -21,7 +21,7 @@ firstBelow p (suc n) =
 unfoldable pub reads : List ℕ → ℕ → ℕ → Bool
 reads counts down p = not (hasBit down p) && ltb (getD counts (placeAt p) 0) (getD counts loggedAt 0)
 
--- The lowest cell that a receipt changes: what one before DELIVER sends stands in later cells than its message; a DELIVER may be relayed, from the
--- receiver's cell.
+-- The lowest cell that a receipt changes whose message was in cell `taken`: what one before DELIVER sends stands in later cells; a DELIVER may be
+-- relayed, from the receiver's cell.
 unfoldable pub floorAfter : ℕ → ℕ → ℕ → ℕ → ℕ
-floorAfter form m from to = cond (ltb form DELIVER) (cellAt form m from) (min (cellAt form m from) (cellAt form m to))
+floorAfter taken form m to = cond (ltb form DELIVER) taken (min taken (cellAt form m to))

@@ -10,10 +10,12 @@ ghost use Rattle.drain.specs.Drain.{endingOf, draining, drained};
 use arrays::BYTES;
 use arrays::COUNTS;
 use arrays::DOWN;
+use arrays::OFFERED;
 use arrays::SETS;
 use events::calls::order;
 use events::calls::read;
 use events::receipts::receive;
+use flight::FORMS;
 use flight::Found;
 use flight::LOADS;
 use flight::MASKS;
@@ -54,7 +56,8 @@ pub struct Done {
     pub ending: Ending,
 }
 
-// Drain, of a sound board at work. No cell below the floor has a message for a site that is up, so the search begins there.
+// Drain, of a sound board at work. No cell below the floor has a message for a site that is up, so the search begins there, in the floor's form.
+// What is in flight is of postings offered, so in each form it looks at their cells only, which come first and end at `end`.
 pub fn drain_events(
     words: &mut [u64; SETS],
     counts: &mut [usize; COUNTS],
@@ -75,25 +78,33 @@ pub fn drain_events(
 {
     let mut count: u64 = 0;
     let mut floor: usize = 0;
+    let mut floor_form: usize = 0;
+    let mut end = counts[OFFERED] * SITES;
     let ending = loop {
         let up = up_mask(setup.n, bytes[DOWN]);
         let mut found = Found::Nothing;
-        'search: for k in floor..MASKS {
-            let w = masks[k] & up;
-            if w == 0 {
-                continue;
-            }
-            for to in 0..SITES {
-                if has_site(w, to as u8) {
-                    found = Found::Message {
-                        form: k / PAIRS,
-                        posting: k / SITES % POSTINGS,
-                        from: k % SITES,
-                        to: to,
-                    };
-                    break 'search;
+        let mut start = floor;
+        'search: for form in floor_form..FORMS {
+            for k in start..end {
+                let w = masks[k] & up;
+                if w == 0 {
+                    continue;
+                }
+                for to in 0..SITES {
+                    if has_site(w, to as u8) {
+                        start = k;
+                        found = Found::Message {
+                            form: form,
+                            posting: k / SITES % POSTINGS,
+                            from: k % SITES,
+                            to: to,
+                        };
+                        break 'search;
+                    }
                 }
             }
+            start = (form + 1) * PAIRS;
+            end = end + PAIRS;
         }
         match found {
             Found::Message {
@@ -119,11 +130,13 @@ pub fn drain_events(
                     to,
                     Cut::Whole,
                 );
-                floor = floor_after(form, posting, from, to);
+                floor = floor_after(start, form, posting, to);
+                floor_form = form;
                 count = count + 1;
             }
             Found::Nothing => {
                 floor = MASKS;
+                floor_form = FORMS;
                 let first = lowest_pooled(words);
                 if first < POSTINGS {
                     if count == limit {

@@ -58,10 +58,9 @@ pub fn next_reader(counts: &[usize; COUNTS], n: u8, down: u8) -> usize
 }
 
 // From which cell on the next search has to look, after a receipt: from the message's own, or from that of a relay of DELIVER, if it is lower.
-pub fn floor_after(form: usize, m: usize, from: usize, to: usize) -> usize
-    ensures { λ r. ⌜ r ≡ floorAfter form m from to ⌝ }
+pub fn floor_after(taken: usize, form: usize, m: usize, to: usize) -> usize
+    ensures { λ r. ⌜ r ≡ floorAfter taken form m to ⌝ }
 {
-    let taken = flight::cell(form, m, from);
     if form < DELIVER {
         return taken;
     }

@@ -1,5 +1,5 @@
--- Laws of a search that begins at a floor, a cell below which nothing is for a site of the mask: it finds what the whole search finds, and where
--- that stands is a floor again, also once it was taken out and others were sent. Rests on SearchLaws and LowestLaws. Assumes nothing.
+-- Laws of a search that passes over cells with nothing for a site of the mask, and of one from a floor on, a cell below which all are such: it finds
+-- what the whole search finds, and where that stands is a floor again, also after others were sent. Rests on SearchLaws and LowestLaws. Assumes nothing.
 use Prim.Native.Nat.{ℕ, zero, suc, _+_, _/_, _%_, _^_, _<_, _≤_}
 use mathlib.Core.Path.{_≡_, refl, sym, ap, _∙_}
 use mathlib.Core.Logic.{inl}
@@ -26,17 +26,28 @@ abbrev pub NoneBelow : List ℕ → ℕ → ℕ → Type 0
 NoneBelow masks up floor = (k : ℕ) → k < floor → bitAnd (getD masks k 0) up ≡ 0
 
 module _ (masks : List ℕ) (up : ℕ) where
-  -- ---- a search from a floor on is the whole search
+  -- ---- a search passes over cells that have no receiver of the mask; so one from a floor on is the whole search
 
-  pub floor-search : (first : ℕ) → NoneBelow masks up first → lowestIn masks up ≡ lowestFrom first (drop first (take cells masks)) up
-  floor-search zero low = refl
-  floor-search (suc k) low = floor-search k (λ j h. low j (omega arith)) ∙ elim (decLt k cells) [
-    | yes h ↦ cell-step masks up k h ∙ rw (eq-eqb (bitAnd (getD masks k 0) up) 0 (low k (omega arith)), add-one)
+  pass-cell : (k : ℕ) → bitAnd (getD masks k 0) up ≡ 0 → lowestFrom k (drop k (take cells masks)) up ≡ lowestFrom (suc k) (drop (suc k) (take cells masks)) up
+  pass-cell k empty = elim (decLt k cells) [
+    | yes h ↦ cell-step masks up k h ∙ rw (eq-eqb (bitAnd (getD masks k 0) up) 0 empty, add-one)
     | no h ↦
         let past : cells ≤ k = omega arith in
         let more : cells ≤ suc k = omega arith in
         cell-end masks up k past ∙ sym (cell-end masks up (suc k) more)
   ]
+
+  pub pass-over :
+      (first next : ℕ) → first ≤ next → ((k : ℕ) → first ≤ k → k < next → bitAnd (getD masks k 0) up ≡ 0)
+      → lowestFrom first (drop first (take cells masks)) up ≡ lowestFrom next (drop next (take cells masks)) up
+  pass-over first zero le empty = let e : first ≡ 0 = omega arith in rw e
+  pass-over first (suc k) le empty = elim (decLt k first) [
+    | yes h ↦ let e : first ≡ suc k = omega arith in rw e
+    | no h ↦ pass-over first k (omega arith) (λ j u v. empty j u (omega arith)) ∙ pass-cell k (empty k (omega arith) (omega arith))
+  ]
+
+  pub floor-search : (first : ℕ) → NoneBelow masks up first → lowestIn masks up ≡ lowestFrom first (drop first (take cells masks)) up
+  floor-search first low = pass-over 0 first (omega arith) (λ k u v. low k v)
 
   -- ---- where a search ends is a floor
 
