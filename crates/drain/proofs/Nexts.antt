@@ -20,7 +20,8 @@ use Rattle.machine.specs.declared.Board.{Board}
 use Rattle.steps.specs.declared.Cut.the-variants.{Whole}
 use Rattle.steps.specs.declared.Call.the-variants.{Order, Read}
 use Rattle.machine.specs.Boards.{siteAt, isUp}
-use Rattle.machine.specs.View.{siteOf, logOf, view}
+use Rattle.views.specs.Views.{siteOf, logOf}
+use Rattle.machine.specs.View.{view}
 use Rattle.machine.proofs.Local.{site-at}
 use Rattle.drain.specs.Drain.{none, event, nextRead, nextOrder}
 use Rattle.drain.specs.Firsts.{firstBelow, reads}

@@ -26,7 +26,8 @@ use Rattle.machine.specs.declared.Board.{Board}
 use Rattle.machine.specs.Soundness.{isSound}
 use Rattle.machine.specs.Runs.{taking}
 use Rattle.machine.specs.QuietParts.{upByte}
-use Rattle.machine.specs.View.{tableOf, view, Right}
+use Rattle.views.specs.Views.{tableOf}
+use Rattle.machine.specs.View.{view, Right}
 use Rattle.machine.proofs.SoundTest.{facts-sound}
 use Rattle.machine.proofs.Gives.{Gives, few-sites}
 use Rattle.machine.proofs.Performed.{perform-gives, log-fits}

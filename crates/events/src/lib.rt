@@ -20,7 +20,6 @@ use sets::POSTINGS;
 use site::Setup;
 use steps::Call;
 
-pub mod calls;
 pub mod receipts;
 
 // A call, taken by the board that the arrays are.

@@ -11,15 +11,15 @@ use arrays::COUNTS;
 use arrays::DOWN;
 use arrays::SETS;
 use arrays::messages::is_sent;
+use delivers::on_deliver;
+use firsts::on_first;
 use flight::LOADS;
 use flight::MASKS;
 use flight::PAIRS;
-use seconds::first::on_first;
 use seconds::second::on_second;
 use site::Setup;
 use steps::Cut;
 use steps::refusals::message_refusal;
-use thirds::deliver::on_deliver;
 use thirds::third::on_third;
 
 // Receive: the message leaves the flight, and its receiver takes the step of its form.

@@ -9,8 +9,8 @@ use native.Mathlib.Nat.{zero-mul, suc-mul}
 use native.Mathlib.Numerals.{add-one}
 use lib.ListN.{length, getD, set, take, length-append, drop-of-length-le}
 use lib.Seq.{sets, sets-eq, take-suc, take-all}
-use Rattle.machine.specs.Laying.{upTo}
-use Rattle.machine.proofs.Grid.{up-none, up-more, up-end}
+use Rattle.layout.specs.Laying.{upTo}
+use Rattle.layout.proofs.Grid.{up-none, up-more, up-end}
 use Rattle.image.specs.Image.{each}
 use Rattle.image.specs.Stored.{stored}
 

@@ -4,7 +4,7 @@ use Prim.Native.Nat.{ℕ, _+_, _*_}
 use mathlib.Core.List.{List}
 use lib.ListN.{getD}
 use lib.Seq.{sets}
-use Rattle.machine.specs.Laying.{upTo}
+use Rattle.layout.specs.Laying.{upTo}
 
 -- the elements below n, each with so many numbers, from a place on
 unfoldable pub stored : {A : Type 0} → (A → List ℕ) → ℕ → ℕ → List A → A → List ℕ → ℕ → List ℕ

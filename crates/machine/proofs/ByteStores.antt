@@ -17,7 +17,7 @@ use Rattle.arrays.specs.Layout.{countAt, loggedAt, placeAt, deliveredAt, downAt
 use Rattle.arrays.specs.Arrays.{Arrays, withCounts, withBytes, withMasks, withGood, withCarried, byte, marked}
 use Rattle.arrays.proofs.Slots.{part-ext, part-set}
 use Rattle.flat.specs.Flat.{hearing, tallying}
-use Rattle.machine.specs.View.{recordOf, siteOf, tallyOf, rowOf, tableOf, logOf}
+use Rattle.views.specs.Views.{recordOf, siteOf, tallyOf, rowOf, tableOf, logOf}
 use Rattle.machine.proofs.Local.{Local, localOf, Elsewhere, Long}
 use Rattle.machine.proofs.Stores.{Changes, changes-then, changes-as, localSite, localTally, localDown, tallyMasks}
 

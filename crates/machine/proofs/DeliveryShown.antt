@@ -31,7 +31,8 @@ use Rattle.arrays.specs.Layout.{seenOf, heldOf, steppedOf, finishedOf, gotOf, p
 use Rattle.arrays.specs.Arrays.{Arrays, arrays, slotSet, hasIn, adding, byte}
 use Rattle.arrays.proofs.Slots.{part-ext, part-other, part-set, slot-long, has-slot, long-added, slot-added, slot-added-other}
 use Rattle.delivery.specs.Delivery.{Laid, laid, delivered, deliveredAll, deliveredEntry}
-use Rattle.machine.specs.View.{recordOf, siteOf, tallyOf, rowOf, tableOf, logOf, Right}
+use Rattle.views.specs.Views.{recordOf, siteOf, tallyOf, rowOf, tableOf, logOf}
+use Rattle.machine.specs.View.{Right}
 use Rattle.machine.proofs.Local.{Local, localOf, Elsewhere, indexed-same, right-local, site-record}
 use Rattle.machine.proofs.Stores.{localSite, Changes}
 

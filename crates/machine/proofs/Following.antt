@@ -33,7 +33,8 @@ use Rattle.steps.specs.ByMask.{enters, entered}
 use Rattle.arrays.specs.Layout.{poolSlot, entryOf, downAt}
 use Rattle.arrays.specs.Arrays.{Arrays, slotSet, byte}
 use Rattle.flat.specs.Flat.{Flat, flat, refusedOr, followed, cutCause}
-use Rattle.machine.specs.View.{recordOf, Right}
+use Rattle.views.specs.Views.{recordOf}
+use Rattle.machine.specs.View.{Right}
 use Rattle.machine.proofs.Local.{Local, localOf, Follows, Received, sentTo, receipt-shown, right-local, site-record}
 use Rattle.machine.proofs.Stores.{Changes}
 

@@ -26,7 +26,8 @@ use Rattle.arrays.specs.Arrays.{Arrays, arrays, slotSet, hasIn}
 use Rattle.arrays.proofs.Slots.{slot-zero, has-slot}
 use Rattle.index.proofs.Indexed.{indexed-empty}
 use Rattle.machine.specs.Boards.{freshBoard}
-use Rattle.machine.specs.View.{recordOf, siteOf, tallyOf, rowOf, tableOf, logOf, view, Right}
+use Rattle.views.specs.Views.{recordOf, siteOf, tallyOf, rowOf, tableOf, logOf}
+use Rattle.machine.specs.View.{view, Right}
 
 -- nothing in any array
 abbrev pub zeros : Arrays

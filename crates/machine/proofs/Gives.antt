@@ -42,7 +42,8 @@ use Rattle.machine.specs.Soundness.{isSound}
 use Rattle.machine.specs.Calls.{refusalOf, receiving, offering}
 use Rattle.machine.specs.declared.Answer.the-variants.{Offered}
 use Rattle.machine.specs.ByMask.{refusing, taken}
-use Rattle.machine.specs.View.{rowOf, tableOf, view, Right}
+use Rattle.views.specs.Views.{rowOf, tableOf}
+use Rattle.machine.specs.View.{view, Right}
 use Rattle.machine.proofs.Placed.{receipt}
 use Rattle.machine.proofs.Local.{Follows, row-at}
 use Rattle.machine.proofs.Facts.{Placed, message-placed, few, site-there, offer-room}

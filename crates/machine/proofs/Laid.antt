@@ -24,12 +24,13 @@ use Rattle.arrays.proofs.Slots.{part-ext}
 use Rattle.machine.specs.declared.Board.{Board}
 use Rattle.machine.specs.Boards.{siteAt, tallyAt}
 use Rattle.machine.specs.Soundness.{isSound}
-use Rattle.machine.specs.View.{recordOf, siteOf, tallyOf, rowOf, tableOf, logOf, view, Right}
-use Rattle.machine.specs.Laying.{upTo, countNo, siteCounts, sitesCounts, layingCounts, columnNo, byteNo, siteBytes, postingBytes, sitesBytes, postingsBytes, layingBytes, layingAmounts, layingSets, Ranged}
+use Rattle.views.specs.Views.{recordOf, siteOf, tallyOf, rowOf, tableOf, logOf}
+use Rattle.machine.specs.View.{view, Right}
+use Rattle.layout.specs.Laying.{upTo, countNo, siteCounts, sitesCounts, layingCounts, columnNo, byteNo, siteBytes, postingBytes, sitesBytes, postingsBytes, layingBytes, layingAmounts, layingSets, Ranged}
 use Rattle.machine.proofs.Shapes.{BoardShape}
 use Rattle.machine.proofs.SoundFacts.{Sound}
 use Rattle.machine.proofs.SoundTest.{sound-facts}
-use Rattle.machine.proofs.Grid.{up-single, grid-long, grid-keeps, grid-shows, sets-other, part-stored}
+use Rattle.layout.proofs.Grid.{up-single, grid-long, grid-keeps, grid-shows, sets-other, part-stored}
 use Rattle.machine.proofs.LaidSets.{SetsLaid, sets-laid}
 
 -- one number read

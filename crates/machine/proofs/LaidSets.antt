@@ -17,7 +17,7 @@ use Rattle.posting.specs.Records.{contains}
 use Rattle.site.specs.declared.Site.{Site}
 use Rattle.site.specs.declared.Tally.{Tally}
 use Rattle.site.specs.Sites.{sites, noSet, noSite, noTally}
-use Rattle.soundness.specs.Parts.{has-set-of}
+use Rattle.sets.proofs.SetLaws.{has-set-of}
 use Rattle.arrays.specs.Layout.{poolSlot, unionOf, entryOf, kindOf, haveOf, slots, shownSlots, kindSlots, setsLong}
 use Rattle.arrays.specs.Arrays.{slotSet, storing, hasIn}
 use Rattle.arrays.proofs.Slots.{part-ext, slot-zero, slot-other, slot-same, long-stored, has-slot}
@@ -25,9 +25,9 @@ use Rattle.index.specs.Index.{indexing, Indexed}
 use Rattle.index.proofs.Indexed.{indexed-offer, indexed-empty, long-indexed, slot-indexed-other}
 use Rattle.machine.specs.declared.Board.{Board}
 use Rattle.machine.specs.Boards.{siteAt, tallyAt, entryAt}
-use Rattle.machine.specs.Laying.{upTo, setNo, pairNo, siteSets, postingSets, recordSet, sitesSets, haveSets, postingsSets, indexedTo, Ranged, layingSets}
+use Rattle.layout.specs.Laying.{upTo, setNo, pairNo, siteSets, postingSets, recordSet, sitesSets, haveSets, postingsSets, indexedTo, Ranged, layingSets}
 use Rattle.machine.proofs.Shapes.{SiteShape, BoardShape}
-use Rattle.machine.proofs.Grid.{up-single, up-keeps, grid-long, grid-keeps, grid-shows}
+use Rattle.layout.proofs.Grid.{up-single, up-keeps, grid-long, grid-keeps, grid-shows}
 
 -- ---- slots of a grid: its sets stand in them, and the others stay
 

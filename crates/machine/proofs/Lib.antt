@@ -18,8 +18,6 @@ pub mod DeliveryShown
 pub mod OnDeliver
 pub mod OnRead
 pub mod Fresh
-pub mod Filled
-pub mod Grid
 pub mod Tables
 pub mod OnOffer
 pub mod LaidSets

@@ -34,7 +34,8 @@ use Rattle.flat.specs.Flat.{Flat, flat, cutCause}
 use Rattle.machine.specs.declared.Board.{Board}
 use Rattle.machine.specs.Boards.{siteAt, tallyAt, entryAt, boardFlight, boardDown}
 use Rattle.machine.specs.Calls.{carriedOut}
-use Rattle.machine.specs.View.{recordOf, siteOf, tallyOf, rowOf, tableOf, logOf, view, Right}
+use Rattle.views.specs.Views.{recordOf, siteOf, tallyOf, rowOf, tableOf, logOf}
+use Rattle.machine.specs.View.{view, Right}
 use Rattle.machine.proofs.Placed.{boardParts, partTo, carried-parts}
 
 -- what it may change

@@ -30,7 +30,8 @@ use Rattle.arrays.proofs.Slots.{has-slot}
 use Rattle.delivery.specs.Delivery.{delivered}
 use Rattle.flat.specs.Flat.{Flat, flat, refusedOr, cutCause, consumed, deliveredTo, flatDeliver}
 use Rattle.machine.specs.Boards.{siteAt, tallyAt}
-use Rattle.machine.specs.View.{recordOf, siteOf, tallyOf, rowOf, view, Right}
+use Rattle.views.specs.Views.{recordOf, siteOf, tallyOf, rowOf}
+use Rattle.machine.specs.View.{view, Right}
 use Rattle.machine.proofs.Local.{Local, localOf, Elsewhere, Follows, Received, elsewhere-then, site-at, tally-at, row-at, right-long, site-record}
 use Rattle.machine.proofs.Stores.{localSite, localDown, Changes, changes-then, add-got}
 use Rattle.machine.proofs.ByteStores.{store-mark, store-flight}

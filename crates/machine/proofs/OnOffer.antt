@@ -35,7 +35,8 @@ use Rattle.flat.specs.Flat.{entered}
 use Rattle.machine.specs.declared.Board.{Board}
 use Rattle.machine.specs.Boards.{siteAt, tallyAt, entryAt, boardDown, boardTable, boardFlight}
 use Rattle.machine.specs.Calls.{carriedOut}
-use Rattle.machine.specs.View.{recordOf, siteOf, tallyOf, rowOf, tableOf, logOf, view, Right}
+use Rattle.views.specs.Views.{recordOf, siteOf, tallyOf, rowOf, tableOf, logOf}
+use Rattle.machine.specs.View.{view, Right}
 use Rattle.machine.proofs.Placed.{boardParts, partTo, carried-parts}
 use Rattle.machine.proofs.ByteStores.{table-same}
 use Rattle.machine.proofs.Following.{length-sending, no-entry, settled-none}

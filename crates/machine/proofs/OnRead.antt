@@ -24,7 +24,8 @@ use Rattle.flat.specs.Flat.{entryDeliveredTo}
 use Rattle.machine.specs.declared.Board.{Board}
 use Rattle.machine.specs.Boards.{siteAt, tallyAt, entryAt}
 use Rattle.machine.specs.Calls.{carriedOut}
-use Rattle.machine.specs.View.{recordOf, siteOf, tallyOf, view, Right}
+use Rattle.views.specs.Views.{recordOf, siteOf, tallyOf}
+use Rattle.machine.specs.View.{view, Right}
 use Rattle.machine.proofs.Placed.{boardRead, entry-carried}
 use Rattle.machine.proofs.Local.{Local, localOf, Elsewhere, elsewhere-then, site-at, tally-at, entry-at, view-local, right-long, site-record}
 use Rattle.machine.proofs.Stores.{localSite, localDown, Changes, changes-then}

@@ -35,7 +35,8 @@ use Rattle.arrays.proofs.Slots.{slot-long, insert-long, has-slot}
 use Rattle.index.specs.Index.{conflictsIn}
 use Rattle.flat.specs.Flat.{consumed, passedSecond, hearing, heardSecond, stepping, carryingTo, joining, holding, steppedSecond, flatSecond, cutCause, refusedOr, flat, followed, Flat}
 use Rattle.machine.specs.Boards.{siteAt, tallyAt}
-use Rattle.machine.specs.View.{siteOf, tallyOf, rowOf, view, Right}
+use Rattle.views.specs.Views.{siteOf, tallyOf, rowOf}
+use Rattle.machine.specs.View.{view, Right}
 use Rattle.machine.proofs.Local.{Follows, right-long, site-at, tally-at, row-at}
 use Rattle.machine.proofs.Stores.{changes-then, store-seen, store-held, add-stepped}
 use Rattle.machine.proofs.ByteStores.{store-mark, store-heard, store-flight}

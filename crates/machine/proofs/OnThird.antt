@@ -34,7 +34,8 @@ use Rattle.arrays.specs.Arrays.{Arrays, withSets, withBytes, withMasks, withGoo
 use Rattle.arrays.proofs.Slots.{slot-long, has-slot}
 use Rattle.flat.specs.Flat.{consumed, passedThird, tallying, heardThird, finishing, sentThird, entering, pooledThird, settledThird, flatThird, cutCause, refusedOr, flat, followed, Flat}
 use Rattle.machine.specs.Boards.{siteAt, tallyAt}
-use Rattle.machine.specs.View.{siteOf, tallyOf, view, Right}
+use Rattle.views.specs.Views.{siteOf, tallyOf}
+use Rattle.machine.specs.View.{view, Right}
 use Rattle.machine.proofs.Local.{Local, Long, Follows, elsewhere-refl, right-long, site-at, tally-at}
 use Rattle.machine.proofs.Stores.{Changes, changes-then, localSite, localTally, localEntry, localPool, localDown, store-union, store-entry, add-finished, add-pool}
 use Rattle.machine.proofs.ByteStores.{store-mark, store-tallied, store-flight}

@@ -44,7 +44,8 @@ use Rattle.machine.specs.Soundness.{isSound}
 use Rattle.machine.specs.Calls.{offering, ordering, reading, crashing}
 use Rattle.machine.specs.Runs.{taking}
 use Rattle.machine.specs.ByMask.{refusing, taken}
-use Rattle.machine.specs.View.{siteOf, tableOf, logOf, view, Right}
+use Rattle.views.specs.Views.{siteOf, tableOf, logOf}
+use Rattle.machine.specs.View.{view, Right}
 use Rattle.machine.proofs.Local.{site-at}
 use Rattle.machine.proofs.Facts.{site-there, offer-room, log-within, logged-below}
 use Rattle.machine.proofs.Outcomes.{offer-site, offer-fields, offer-late, offer-done, order-refused, order-done, crash-site, crash-spent, crash-done}

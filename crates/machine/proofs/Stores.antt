@@ -17,7 +17,7 @@ use Rattle.site.specs.Sites.{sites, siteSeen, siteStepped, siteFinished, siteGo
 use Rattle.arrays.specs.Layout.{seenOf, heldOf, steppedOf, finishedOf, gotOf, poolSlot, unionOf, entryOf, kindOf, haveOf, slots, shownSlots}
 use Rattle.arrays.specs.Arrays.{Arrays, withSets, slotSet, storing, adding}
 use Rattle.arrays.proofs.Slots.{slot-long, insert-long, slot-other, slot-same, long-stored, adding-is}
-use Rattle.machine.specs.View.{recordOf, siteOf, tallyOf, rowOf, tableOf, logOf}
+use Rattle.views.specs.Views.{recordOf, siteOf, tallyOf, rowOf, tableOf, logOf}
 use Rattle.machine.proofs.Local.{Local, localOf, Elsewhere, elsewhere-then, Long}
 
 -- ---- what is theirs, with one part changed

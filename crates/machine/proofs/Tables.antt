@@ -28,7 +28,8 @@ use Rattle.arrays.specs.Arrays.{Arrays, withSets, withCounts, withBytes, slotSe
 use Rattle.arrays.proofs.Slots.{part-ext, part-set}
 use Rattle.flat.specs.Flat.{entered, logging}
 use Rattle.machine.specs.Boards.{siteAt, tallyAt, entryAt, boardDown, boardPool, boardTable}
-use Rattle.machine.specs.View.{recordOf, siteOf, tallyOf, rowOf, tableOf, logOf, view, Right}
+use Rattle.views.specs.Views.{recordOf, siteOf, tallyOf, rowOf, tableOf, logOf}
+use Rattle.machine.specs.View.{view, Right}
 use Rattle.machine.proofs.Local.{Local, right-long, right-local, site-at, tally-at, entry-at, view-local, shownAfter, table-changed, site-record, indexed-same}
 use Rattle.machine.proofs.Stores.{Changes, localDown, localPool, store-pool}
 use Rattle.machine.proofs.ByteStores.{table-same, store-mark}

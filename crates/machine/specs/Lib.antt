@@ -7,7 +7,6 @@ pub mod Runs
 pub mod History
 pub mod Figures
 pub mod View
-pub mod Laying
 pub mod ByMask
 pub mod SoundParts
 pub mod QuietParts

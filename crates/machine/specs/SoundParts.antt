@@ -24,7 +24,8 @@ use Rattle.site.specs.declared.Tally.{Tally}
 use Rattle.site.specs.Sites.{sites}
 use Rattle.site.specs.Steps.{ownerOf}
 use Rattle.flight.specs.Flights.{cells}
-use Rattle.soundness.specs.Parts.{allOffered, rowSound, tableSound, maskSound, masksSound, recordSound, setsSound, siteSound, sitesSound, tallySound, talliesSound, finishedSet, entrySound, entriesSound, poolSound, has-set-of}
+use Rattle.sets.proofs.SetLaws.{has-set-of}
+use Rattle.soundness.specs.Parts.{allOffered, rowSound, tableSound, maskSound, masksSound, recordSound, setsSound, siteSound, sitesSound, tallySound, talliesSound, finishedSet, entrySound, entriesSound, poolSound}
 use Rattle.cells.specs.Cells.{thirdSound, cellSound, cellSoundAt, cellsSound}
 use Rattle.machine.specs.declared.Board.{Board}
 use Rattle.machine.specs.Boards.{siteAt, tallyAt, entryAt}

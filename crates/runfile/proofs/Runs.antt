@@ -25,8 +25,9 @@ use Rattle.machine.specs.Boards.{freshBoard, siteAt}
 use Rattle.machine.specs.Soundness.{isSound}
 use Rattle.machine.specs.Calls.{refusalOf}
 use Rattle.machine.specs.Runs.{taking, running, answers}
-use Rattle.machine.specs.View.{logOf, view, Right}
-use Rattle.machine.specs.View as view-of
+use Rattle.views.specs.Views.{logOf}
+use Rattle.machine.specs.View.{view, Right}
+use Rattle.views.specs.Views as view-of
 use Rattle.machine.specs.Figures.{recordOf}
 use Rattle.machine.proofs.ByteStores.{table-same}
 use Rattle.machine.proofs.Local.{site-at, site-record}

@@ -10,9 +10,9 @@ ghost use Rattle.runfile.specs.Program.{endedOn};
 use arrays::BYTES;
 use arrays::COUNTS;
 use arrays::DOWN;
-use machine::taking::log_of;
 use printer::Ended;
 use shown::figures::records_of;
+use views::log_of;
 
 pub mod event;
 pub mod run;

@@ -1,4 +1,3 @@
 -- What the proofs of each step share: the ways out of it.
 -- Rests on flat.
-pub mod OnFirst
 pub mod OnSecond

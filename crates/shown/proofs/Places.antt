@@ -18,7 +18,8 @@ use Rattle.arrays.specs.Layout.{placeAt, loggedAt, countsLong}
 use Rattle.arrays.specs.Arrays.{Arrays}
 use Rattle.machine.specs.Boards.{siteAt}
 use Rattle.machine.specs.QuietParts.{placeIn, PlacesOf}
-use Rattle.machine.specs.View.{siteOf, logOf, view}
+use Rattle.views.specs.Views.{siteOf, logOf}
+use Rattle.machine.specs.View.{view}
 use Rattle.machine.proofs.Local.{site-at}
 
 -- the places of the first p sites stand in the counts

@@ -38,8 +38,9 @@ use Rattle.machine.specs.Soundness.{isSound}
 use Rattle.steps.specs.Causes.{firstCause, siteCauses}
 use Rattle.machine.specs.Calls.{answerOf}
 use Rattle.machine.specs.Figures.{recordOf, figuresOf, figuresOfAll, shown, showing, showingAll}
-use Rattle.machine.specs.View.{siteOf, rowOf, tableOf, view}
-use Rattle.machine.specs.View as view-of
+use Rattle.views.specs.Views.{siteOf, rowOf, tableOf}
+use Rattle.machine.specs.View.{view}
+use Rattle.views.specs.Views as view-of
 use Rattle.machine.proofs.SoundTest.{sound-facts}
 use Rattle.machine.proofs.Local.{site-at, site-record}
 use Rattle.machine.proofs.ByteStores.{table-same}

@@ -9,7 +9,8 @@ ghost use Rattle.books.specs.Bounds.{Postable};
 ghost use Rattle.site.specs.declared.Site.{Site};
 ghost use Rattle.site.specs.Sites.{sites};
 ghost use Rattle.arrays.specs.Arrays.{arrays};
-ghost use Rattle.machine.specs.View.{recordOf, tableOf, view};
+ghost use Rattle.views.specs.Views.{recordOf, tableOf};
+ghost use Rattle.machine.specs.View.{view};
 ghost use Rattle.machine.specs.Soundness.{isSound};
 ghost use Rattle.machine.specs.Calls.{answerOf};
 ghost use Rattle.machine.specs.Figures.{showing, showingAll};
@@ -18,13 +19,13 @@ use arrays::COUNTS;
 use books::Records;
 use machine::Answer;
 use machine::Board;
-use machine::taking::record_of;
-use machine::taking::table_of;
 use posting::Record;
 use sets::POSTINGS;
 use site::SITES;
 use site::Setup;
 use steps::refusals::site_refusal;
+use views::record_of;
+use views::table_of;
 
 // How many numbers the books of a site have.
 const FIGURES: usize = 64;

@@ -27,7 +27,8 @@ use Rattle.posting.specs.Records.{numbersOf, contains}
 use Rattle.site.specs.declared.Site.{Site}
 use Rattle.site.specs.Sites.{noSite}
 use Rattle.site.specs.Steps.{ownerOf}
-use Rattle.soundness.specs.Parts.{recordSound, has-set-of}
+use Rattle.sets.proofs.SetLaws.{has-set-of}
+use Rattle.soundness.specs.Parts.{recordSound}
 
 -- ---- the numbers of a list, as a set
 

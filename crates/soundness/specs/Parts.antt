@@ -1,19 +1,15 @@
 -- The parts of the test for soundness, each over what it reads alone.
 -- Proof machinery: the contracts of src/ name these parts, and machine's sound-parts says that they make up isSound, the definition in its Soundness.
--- Rests on site, posting and sets. Assumes nothing.
-use Prim.Native.Nat.{ℕ, _-_, _^_, _<_}
-use mathlib.Core.Path.{_≡_, ap, _∙_}
+-- Rests on site, posting and sets.
+use Prim.Native.Nat.{ℕ, _^_}
 use mathlib.Core.Bool.{Bool, not, _&&_, _||_}
 use mathlib.Core.List.{List, [], _∷_}
-use native.Mathlib.Omega.{arith}
 use lib.Dec.{eqb, ltb, leb}
 use lib.ListN.{getD}
-use borrow.Author.Tests.{lt-ltb}
 use Rattle.sets.specs.declared.Set.{Set}
 use Rattle.sets.specs.Below.{allBelow, allOf}
 use Rattle.sets.specs.Numbers.{distinct}
-use Rattle.sets.specs.WordLaws.{member-collect}
-use Rattle.sets.specs.Sets.{words, capacity, has, subset, isEmptySet, setOf}
+use Rattle.sets.specs.Sets.{capacity, has, subset, isEmptySet, setOf}
 use Rattle.posting.specs.declared.Posting.{Posting}
 use Rattle.posting.specs.declared.Table.{Table}
 use Rattle.posting.specs.declared.Record.{Record}
@@ -99,8 +95,3 @@ entriesSound pool logged finished l all =
 unfoldable pub poolSound : Table → List Site → Set → Set → List Set → Record → Bool
 poolSound t l all pool entries log =
     allOf (subset pool all ∷ recordSound (t .count) log ∷ entriesSound pool (setOf (contains log)) (finishedSet t l) entries all ∷ [])
-
--- ---- a set by its test
-
-pub has-set-of : (p : ℕ → Bool) (x : ℕ) → x < capacity → has (setOf p) x ≡ p x
-has-set-of p x h = member-collect words p capacity x (omega arith) ∙ ap (λ (b : Bool). b && p x) (lt-ltb x capacity h)

@@ -3,7 +3,7 @@
 use mathlib.Core.Path.{sym, _∙_}
 use Rattle.arrays.specs.Arrays.{arrays}
 use Rattle.events.proofs.OnReceive.{in-place, receive-refused, receive-none, is-first, is-second, is-third, is-deliver}
-use Rattle.events.proofs.Passed.{message-below}
+use Rattle.calls.proofs.Passed.{message-below}
 use borrow.Author.Needs.{needs}
 use Rattle.events.proofs.receipts.receive.Statement.{statement}
 use Rattle.events.proofs.receipts.receive.Tie as tie

@@ -1,7 +1,7 @@
 -- `masks_from` meets its contract.
 -- Assumes nothing.
 use Prim.Native.Nat.{_+_, _≤_, _-_}
-use Rattle.machine.proofs.Filled.{Filled, filled-begin, filled-step, filled-all}
+use Rattle.views.proofs.Filled.{Filled, filled-begin, filled-step, filled-all}
 use Rattle.image.specs.Image.{number, numbers}
 use Rattle.flight.specs.Flights.{cells}
 use Rattle.image.specs.Layout.{masksAt}

@@ -1,7 +1,7 @@
 -- `words_from` meets its contract.
 -- Assumes nothing.
 use Prim.Native.Nat.{_+_, _≤_, _-_}
-use Rattle.machine.proofs.Filled.{Filled, filled-begin, filled-step, filled-all}
+use Rattle.views.proofs.Filled.{Filled, filled-begin, filled-step, filled-all}
 use Rattle.image.specs.Image.{number, numbers}
 use Rattle.sets.specs.Sets.{words}
 use borrow.Author.Needs.{needs}

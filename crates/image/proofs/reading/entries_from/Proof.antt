@@ -5,7 +5,7 @@ use Rattle.sets.specs.Sets.{words, capacity}
 use Rattle.site.specs.Sites.{noSet}
 use Rattle.image.specs.Layout.{entriesAt}
 use Rattle.image.specs.Image.{setFrom}
-use Rattle.machine.proofs.Filled.{Filled, filled-begin, filled-step, filled-all}
+use Rattle.views.proofs.Filled.{Filled, filled-begin, filled-step, filled-all}
 use borrow.Author.Needs.{needs}
 use Rattle.image.proofs.reading.entries_from.Statement.{statement}
 use Rattle.image.proofs.reading.entries_from.Tie as tie

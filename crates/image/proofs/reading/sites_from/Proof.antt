@@ -4,7 +4,7 @@ use Prim.Native.Nat.{_+_, _*_, _≤_, _-_}
 use Rattle.site.specs.Sites.{sites, noSite}
 use Rattle.image.specs.Layout.{sitesAt, siteLong}
 use Rattle.image.specs.Image.{siteFrom}
-use Rattle.machine.proofs.Filled.{Filled, filled-begin, filled-step, filled-all}
+use Rattle.views.proofs.Filled.{Filled, filled-begin, filled-step, filled-all}
 use borrow.Author.Needs.{needs}
 use Rattle.image.proofs.reading.sites_from.Statement.{statement}
 use Rattle.image.proofs.reading.sites_from.Tie as tie

@@ -8,7 +8,7 @@ use Rattle.posting.specs.declared.Posting.{Posting}
 use Rattle.posting.specs.Conflicts.{noPosting}
 use Rattle.image.specs.Layout.{rowsAt, rowLong}
 use Rattle.image.specs.Image.{rowFrom, tableFrom}
-use Rattle.machine.proofs.Filled.{Filled, filled-begin, filled-step, filled-all}
+use Rattle.views.proofs.Filled.{Filled, filled-begin, filled-step, filled-all}
 use borrow.Author.Needs.{needs}
 use Rattle.image.proofs.reading.table_from.Statement.{statement}
 use Rattle.image.proofs.reading.table_from.Tie as tie

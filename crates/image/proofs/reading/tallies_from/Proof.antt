@@ -5,7 +5,7 @@ use Rattle.sets.specs.Sets.{capacity}
 use Rattle.site.specs.Sites.{noTally}
 use Rattle.image.specs.Layout.{talliesAt, tallyLong}
 use Rattle.image.specs.Image.{tallyFrom}
-use Rattle.machine.proofs.Filled.{Filled, filled-begin, filled-step, filled-all}
+use Rattle.views.proofs.Filled.{Filled, filled-begin, filled-step, filled-all}
 use borrow.Author.Needs.{needs}
 use Rattle.image.proofs.reading.tallies_from.Statement.{statement}
 use Rattle.image.proofs.reading.tallies_from.Tie as tie

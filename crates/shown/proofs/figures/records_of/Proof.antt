@@ -5,8 +5,8 @@ use mathlib.Core.List.{List}
 use Rattle.books.specs.Books.{noRecord}
 use Rattle.site.specs.Sites.{sites}
 use Rattle.arrays.specs.Arrays.{arrays}
-use Rattle.machine.specs.View.{recordOf}
-use Rattle.machine.proofs.Filled.{Filled, filled-begin, filled-step, filled-all}
+use Rattle.views.specs.Views.{recordOf}
+use Rattle.views.proofs.Filled.{Filled, filled-begin, filled-step, filled-all}
 use borrow.Author.Needs.{needs}
 use Rattle.shown.proofs.figures.records_of.Statement.{statement}
 use Rattle.shown.proofs.figures.records_of.Tie as tie
