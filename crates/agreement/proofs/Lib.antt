@@ -20,5 +20,6 @@ pub mod Along
 pub mod Begins
 pub mod Simulated
 pub mod Exchanged
+pub mod Posted
 pub mod Proved
 pub mod Drained

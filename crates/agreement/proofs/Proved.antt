@@ -40,7 +40,7 @@ use Rattle.broadcast.specs.Lists.{In, Before, Exchanges, share}
 use Rattle.broadcast.specs.Counts.{count}
 use Rattle.broadcast.specs.Machine.{World, State}
 use Rattle.broadcast.specs.Runs.{Quiet}
-use Rattle.broadcast.proofs.Lists.{before-left}
+use Rattle.broadcast.proofs.Lists.{before-left, share-same}
 use Rattle.broadcast.proofs.Safety.{safe}
 use Rattle.broadcast.proofs.Records.{records}
 use Rattle.broadcast.proofs.OneOrder.{Ordered, orderAt, one-order, delivered-named}
@@ -54,6 +54,7 @@ use Rattle.agreement.proofs.Shows.{Shows}
 use Rattle.agreement.proofs.Ground.{W}
 use Rattle.agreement.proofs.Along.{run-earlier}
 use Rattle.agreement.proofs.Simulated.{Simulated, simulated}
+use Rattle.agreement.proofs.Posted.{books-zero}
 use Rattle.agreement.proofs.Exchanged.{exchanged-under, exchanged-books, count-most}
 
 clash-is : (matrix : ℕ) (t : Table) (x y : ℕ) → offered t x ≡ true → offered t y ≡ true → clash matrix t x y ≡ conflict matrix t x y
@@ -173,6 +174,13 @@ module _ (setup : Setup) (ok : setupOk setup ≡ true) (calls : List Call) where
     same-books = λ p lt. unfold figuresOf in ap numbers (same-books-from blank p (there p lt));
   }
 
+  same-members : (p q : ℕ) → p < setup .n → q < setup .n → ((x : ℕ) → In x (recordOf last p) → In x (recordOf last q))
+      → ((x : ℕ) → In x (recordOf last q) → In x (recordOf last p)) → figuresOf last p ≡ figuresOf last q
+  same-members p q lp lq forth back =
+      one .same-books p lp
+      ∙ ap (λ (l : List ℕ). numbers (books blank (last .table) l)) (share-same (recordOf last p) (recordOf last q) order forth back)
+      ∙ sym (one .same-books q lq)
+
   -- ---- clause 5
 
   two : 2 ≤ w .n
@@ -230,6 +238,10 @@ module _ (setup : Setup) (ok : setupOk setup ≡ true) (calls : List Call) where
   own none p m lt up lm o = to-record p m (there p lt) (agreed none .own p m (there p lt) (up-is p (there p lt) up) (shown .offers m ∙ offered-now m lm)
       (up-is (w .owner m) (w .owned m) (ap (λ (q : ℕ). broughtDown q done) (owner-is m lm) ∙ o)))
 
+  alike : NothingLeft last → (p q x : ℕ) → p < setup .n → q < setup .n → broughtDown p done ≡ false → broughtDown q done ≡ false → In x (recordOf last p) → In x (recordOf last q)
+  alike none p q x lp lq up uq h = to-record q x (there q lq)
+      (agreed none .same p q x (there p lp) (there q lq) (up-is p (there p lp) up) (up-is q (there q lq) uq) (of-record p x (there p lp) h))
+
   pub uniform-agreement : Uniform (setup .n) done last
   uniform-agreement none p q x lp lq up h = to-record q x (there q lq) (uniform w (sim .reached) (quiet none) p q x (of-record p x (there p lp) h) (there q lq) (up-is q (there q lq) up))
 
@@ -270,13 +282,14 @@ module _ (setup : Setup) (ok : setupOk setup ≡ true) (calls : List Call) where
     only-offered = λ p x lt h. counted x (named setup ok calls p x (there setup ok calls p lt) h);
     order = order setup ok calls;
     one-order = one setup ok calls;
+    same-numbers = same-members setup ok calls;
+    comes-to-zero = λ p lt. books-zero (running (freshBoard setup) calls) (good setup ok calls) p (there setup ok calls p lt);
     ceiling = λ m lt. spends setup ok calls m;
     total = in-all setup ok calls;
-    same-postings = λ none p q x lp lq up uq h.
-        to-record setup ok calls q x (there setup ok calls q lq)
-        (agreed setup ok calls none .same p q x (there setup ok calls p lp) (there setup ok calls q lq) (up-is setup ok calls p (there setup ok calls p lp) up)
-        (up-is setup ok calls q (there setup ok calls q lq) uq) (of-record setup ok calls p x (there setup ok calls p lp) h));
+    same-postings = alike setup ok calls;
     all-offered = own setup ok calls;
+    same-figures = λ none p q lp lq up uq.
+        same-members setup ok calls p q lp lq (λ x. alike setup ok calls none p q x lp lq up uq) (λ x. alike setup ok calls none q p x lq lp uq up);
     never-used = λ none.
         let alone : Alone setup ok calls = λ x y ox oy. matrix-is setup ok calls x y ∙ none x y (counted x ox) (counted y oy) in
         ((unused setup ok calls alone) .1, never-pooled alone);

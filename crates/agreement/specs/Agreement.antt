@@ -4,10 +4,11 @@ use Prim.Native.Nat.{ℕ, _+_, _*_, _<_, _≤_}
 use mathlib.Core.Path.{_≡_}
 use mathlib.Core.Bool.{true, false}
 use mathlib.Core.List.{List, [], _++_}
+use lib.IntN.{pos}
 use lib.ListN.{length, getD}
 use Rattle.sets.specs.Sets.{has}
 use Rattle.posting.specs.Conflicts.{noPosting, row, conflict}
-use Rattle.books.specs.Books.{blank, books, numbers}
+use Rattle.books.specs.Books.{blank, books, numbers, total}
 use Rattle.machine.specs.declared.Board.{Board}
 use Rattle.steps.specs.declared.Call.{Call}
 use Rattle.machine.specs.Runs.{running, NothingLeft}
@@ -44,6 +45,11 @@ pub record BooksAgree (n matrix : ℕ) (start : Board) (calls done : List Call) 
   -- 1 to 4.
   pub order : List ℕ
   pub one-order : OneOrder n matrix b order
+  -- So any two sites, up or down, that hold the same postings show the same 64 numbers.
+  pub same-numbers : (p q : ℕ) → p < n → q < n → ((x : ℕ) → In x (recordOf b p) → In x (recordOf b q))
+      → ((x : ℕ) → In x (recordOf b q) → In x (recordOf b p)) → figuresOf b p ≡ figuresOf b q
+  -- At every site positions plus settled sums, over all accounts, come to 0.
+  pub comes-to-zero : (p : ℕ) → p < n → total (books blank (b .table) (recordOf b p)) ≡ pos 0
   -- 5. Each posting offered is named by at most 2n² + n + 1 accepted receipts, orders and readings; and all together have that many per offer.
   pub ceiling : (m : ℕ) → m < length (offers done) → naming m [] done ≤ ceilingOf n
   pub total : actions done ≤ ceilingOf n * length (offers done)
@@ -51,6 +57,8 @@ pub record BooksAgree (n matrix : ℕ) (start : Board) (calls done : List Call) 
   pub same-postings : NothingLeft b → (p q x : ℕ) → p < n → q < n → broughtDown p done ≡ false → broughtDown q done ≡ false → In x (recordOf b p) → In x (recordOf b q)
   pub all-offered : NothingLeft b → (p m : ℕ) → p < n → broughtDown p done ≡ false
       → m < length (offers done) → broughtDown (getD (offers done) m noPosting .owner) done ≡ false → In m (recordOf b p)
+  -- Then all of them show the same figures.
+  pub same-figures : NothingLeft b → (p q : ℕ) → p < n → q < n → broughtDown p done ≡ false → broughtDown q done ≡ false → figuresOf b p ≡ figuresOf b q
   -- 7. If no two offered postings conflict, the log was never used: no order was accepted, and the pool was empty on every board of the run.
   pub never-used : ((x y : ℕ) → x < length (offers done) → y < length (offers done) → conflict matrix (b .table) x y ≡ false)
       → (orders done ≡ []) × ((before after : List Call) → calls ≡ before ++ after → (m : ℕ) → has (running start before .pool) m ≡ false)

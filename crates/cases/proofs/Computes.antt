@@ -1,50 +1,12 @@
 -- One name to unfold every definition that a case rests on, so that a closed term computes.
--- Assumes nothing.
+-- Rests on the Computes of machine and runfile, on the specs of drain, and on Trials. Assumes nothing.
 use mathlib.Core.Bool.{Bool, true}
-use lib.Count.{ones, onesIn}
-use Rattle.sets.specs.Below.{allBelow, anyBelow, allOf}
-use Rattle.sets.specs.Masks.{hasBit}
-use Rattle.sets.specs.Numbers.{listed, distinct}
-use Rattle.sets.specs.Words.{member, insert, remove, insertIf, wordwise, union, intersect, isEmpty, isSubset, membersBelow, members, collect}
-use Rattle.posting.specs.Kinds.{inRow, fieldsOk, matrixEntry, allPairs, turnedAlike, symmetric, fixedPairs, fixedPair, pairOk, hasFixedPairs}
-use Rattle.posting.specs.Conflicts.{row, offeredBy, offered, touches, shares, conflicting, conflict, conflictSet}
-use Rattle.posting.specs.Records.{numbersOf, contains, append}
-use Rattle.books.specs.Effect.{sizeOfCall, change, effect}
-use Rattle.site.specs.Sends.{toAll, toOthers}
-use Rattle.site.specs.Steps.{alone, onOffer, onFirst, stepSecond, onSecond, stepThird, onThird, onDeliver, onEntry, delivering, deliveringAll}
-use Rattle.flight.specs.Flights.{pairAt, cellAt, messageIn, wordsFrom, setIn, sendingTo, takingFrom, saying, carrying, nothingComes, inFlight, sending, sendingAll, takingOut, lowestTo, lowestFrom}
-use Rattle.machine.specs.Soundness.{setupOk, recordOk, siteOk, tallyOk, cellOk, cellsOk, entryOk, isSound}
-use Rattle.machine.specs.Calls.{judged, starting, pooling, entering, carriedOut, offering, receiptOf, receiving, ordering, reading, crashing}
-use Rattle.machine.specs.Figures.{figuresOf, figuresOfAll, shown, showing, showingAll}
-use Rattle.machine.specs.Runs.{taking, running, answers, upMask, isQuiet}
+use Rattle.machine.proofs.Computes.{of-board}
 use Rattle.drain.specs.Drain.{nextRead, nextOrder, nextAfter, nextEvent, draining, drained}
+use Rattle.runfile.proofs.Computes.{of-program}
 use Rattle.cases.specs.Trials.{isDelivering, entriesOf, view, looked, found}
 
--- An unfolding line with one of these names unfolds all that stands on the line under it, crate by crate.
-unfoldable pub of-sets : Bool
-unfolding ones onesIn allBelow anyBelow hasBit listed distinct member insert remove insertIf wordwise union intersect isEmpty isSubset membersBelow members collect
-of-sets = true
-
-unfoldable pub of-posting : Bool
-unfolding inRow fieldsOk matrixEntry allPairs turnedAlike symmetric fixedPairs fixedPair pairOk hasFixedPairs row offeredBy offered touches shares conflicting conflict conflictSet numbersOf contains append
-of-posting = true
-
-unfoldable pub of-books : Bool
-unfolding sizeOfCall change effect
-of-books = true
-
-unfoldable pub of-site : Bool
-unfolding toAll toOthers alone onOffer onFirst stepSecond onSecond stepThird onThird onDeliver onEntry delivering deliveringAll
-of-site = true
-
-unfoldable pub of-flight : Bool
-unfolding pairAt cellAt messageIn wordsFrom setIn sendingTo takingFrom saying carrying nothingComes inFlight sending sendingAll takingOut lowestTo lowestFrom
-of-flight = true
-
-unfoldable pub of-machine : Bool
-unfolding allOf setupOk recordOk siteOk tallyOk cellOk cellsOk entryOk isSound judged starting pooling entering carriedOut offering receiptOf receiving ordering reading crashing taking running answers upMask isQuiet figuresOf figuresOfAll shown showing showingAll
-of-machine = true
-
+-- An unfolding line with one of these names unfolds all that stands on the line under it.
 unfoldable pub of-drain : Bool
 unfolding nextRead nextOrder nextAfter nextEvent draining drained
 of-drain = true
@@ -54,5 +16,5 @@ unfolding isDelivering entriesOf view looked found
 of-cases = true
 
 unfoldable pub computes : Bool
-unfolding of-sets of-posting of-books of-site of-flight of-machine of-drain of-cases
+unfolding of-board of-program of-drain of-cases
 computes = true

@@ -1,5 +1,5 @@
 -- M1 to M10 of document 01, "Marked for proof", in one table, each with its words.
--- Rests on Trials and Boards.
+-- Rests on Trials, Boards and WholeCase.
 use Prim.Native.Nat.{ℕ}
 use mathlib.Core.Bool.{true, false}
 use mathlib.Core.List.{List, [], _∷_}
@@ -13,8 +13,9 @@ use Rattle.steps.specs.declared.Call.the-variants.{Offer}
 use Rattle.machine.specs.declared.Answer.the-variants.{Done, Offered, Refused}
 use Rattle.machine.specs.Runs.{running}
 use Rattle.drain.specs.declared.Ending.the-variants.{Quiet, Spent}
-use Rattle.cases.specs.Trials.{Entry, View, start, conflicts, called, calls, drain, look, answer, answered, said, figure, ended, left, Case, _gives_}
+use Rattle.cases.specs.Trials.{Entry, View, start, conflicts, called, calls, drain, look, prints, answer, answered, said, figure, ended, left, text, Case, _gives_}
 use Rattle.cases.specs.Boards.{began, arrives, trading, m9, m10}
+use Rattle.cases.specs.WholeCase.{wholeFile, wholeText}
 
 -- postings of each kind
 abbrev pub aTrade : ℕ → ℕ → Posting
@@ -33,9 +34,11 @@ aNet account = record { owner = 0; kind = net; a = account; b = account; amount 
 
 unfoldable pub marked : List Case
 marked =
-    -- M1: n 2 gives 2; n 7, f 3 starts; n 8 gives 2.
-    start 2 0 0x5B6C gives answer (Refused 2)
+    -- M1: n 2 gives 2; n 7, f 3 starts; n 8 gives 2. (With n 2, f 1 cause 3 holds too, with n 2, f 0 it does not.)
+    start 2 1 0x5B6C gives answer (Refused 2)
+    ∷ start 2 0 0x5B6C gives answer (Refused 2)
     ∷ start 7 3 0x5B6C gives answer Done
+    ∷ start 8 1 0x5B6C gives answer (Refused 2)
     ∷ start 8 3 0x5B6C gives answer (Refused 2)
     -- M2: n 4, f 2 gives 3.
     ∷ start 4 2 0x5B6C gives answer (Refused 3)
@@ -51,7 +54,8 @@ marked =
     ∷ called (pos 1001) (pos 250) gives figure (pos 26)
     ∷ called (negℤ (pos 1001)) (pos 250) gives figure (pos 26)
     ∷ called (pos 0) (pos 250) gives figure (pos 0)
-    -- M6: the list of the whole case.
+    -- M6: the list above, which is all that `board` prints for the whole case; and the answers of its three calls.
+    ∷ prints wholeFile gives text wholeText
     ∷ calls began (Offer 0 trade 1 2 1000 Whole ∷ arrives FIRST 0 0 0 ∷ arrives FIRST 0 0 0 ∷ [])
     gives answered (Offered 0 ∷ Done ∷ Refused 11 ∷ [])
     -- M7: one TRADE offered, drain 22: 22 events, quiet.

@@ -1,11 +1,11 @@
 -- What a case tries on the definitions, what comes of it, and that all cases of a table hold.
--- Rests on drain, machine, flight, site, books, posting and sets.
+-- Rests on runfile, drain, machine, flight, site, books, posting and sets.
 use Prim.Native.Nat.{ℕ}
 use mathlib.Core.Path.{_≡_}
 use mathlib.Core.Bool.{Bool, true, false, _&&_}
 use mathlib.Core.List.{List, [], _∷_, map}
 use lib.IntN.{ℤ, pos}
-use lib.ListN.{take, replicate}
+use lib.ListN.{take, drop, replicate}
 use Rattle.sets.specs.Below.{anyBelow}
 use Rattle.sets.specs.Words.{membersBelow}
 use Rattle.sets.specs.Sets.{membersOf, setOf}
@@ -26,6 +26,7 @@ use Rattle.machine.specs.Runs.{taking, accepted, answers, isQuiet}
 use Rattle.machine.specs.Figures.{showing, showingAll}
 use Rattle.drain.specs.declared.Ending.{Ending}
 use Rattle.drain.specs.Drain.{Next, nextEvent, drained}
+use Rattle.runfile.specs.Program.{printed}
 
 -- ---- what is looked at on a board
 
@@ -80,6 +81,9 @@ pub data Trial : Type 0 where
   -- the books of a site, or of all sites, on a board, into a slice of so many numbers
   books : Board → (site : ℕ) → (long : ℕ) → Trial
   booksOfAll : Board → (long : ℕ) → Trial
+  -- so many numbers, from a place on, of the slice that these books leave of the one lent; fewer where it ends before
+  part : Board → (site : ℕ) → (lent : List ℤ) → (place long : ℕ) → Trial
+  partOfAll : Board → (lent : List ℤ) → (place long : ℕ) → Trial
   -- what a drain does next on a board
   next : Board → Trial
   -- a drain of a board, with its limit
@@ -88,15 +92,19 @@ pub data Trial : Type 0 where
   look : Board → List Call → ℕ → Trial
   -- whether a board is sound
   sound : Board → Trial
+  -- what `board` prints for a run file, by its bytes
+  prints : (file : List ℕ) → Trial
 
 pub data Result : Type 0 where
   answer : Answer → Result
   answered : List Answer → Result
   said : Bool → Result
   figure : ℤ → Result
+  numbers : List ℤ → Result
   does : Next → Result
   ended : (count : ℕ) → Ending → Result
   left : View → Result
+  text : List ℕ → Result
 
 -- what a board looks like after calls and a drain; if a call is refused, its answer
 unfoldable pub looked : Board → List Call → ℕ → Result
@@ -122,10 +130,13 @@ found (ask b c) = answer (taking b c .answer)
 found (calls b l) = answered (answers b l)
 found (books b site long) = answer (showing b site (replicate long (pos 0)) .answer)
 found (booksOfAll b long) = answer (showingAll b (replicate long (pos 0)) .answer)
+found (part b site lent place long) = numbers (take long (drop place (showing b site lent .slice)))
+found (partOfAll b lent place long) = numbers (take long (drop place (showingAll b lent .slice)))
 found (next b) = does (nextEvent b)
 found (drain b limit) = let d = drained b limit in ended (d .count) (d .ending)
 found (look b l limit) = looked b l limit
 found (sound b) = said (isSound b)
+found (prints file) = text (printed file)
 
 -- a trial, and what must come of it
 infix 68 _gives_

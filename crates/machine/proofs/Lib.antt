@@ -1,4 +1,4 @@
--- What the proofs of the calls share: the shape of a board, what the test of soundness says of it, and events on the arrays seen through view.
+-- What the proofs of the calls share: the shape of a board, what its soundness says, events on arrays seen through view; names for cases to unfold.
 -- Rests on the specs.
 pub mod Shapes
 pub mod Typed
@@ -28,3 +28,4 @@ pub mod Received
 pub mod Gives
 pub mod Performed
 pub mod Answered
+pub mod Computes

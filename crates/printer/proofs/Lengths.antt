@@ -96,7 +96,7 @@ items-length [] s = omega arith
 items-length (m ∷ l) s =
     omega (arith, length-append (decimal m) (items l), three-digits m (s 0), items-length l (λ i. s (suc i)))
 
-state-length : (down : Bool) → length (cond down downWord upWord) ≤ 5
+pub state-length : (down : Bool) → length (cond down downWord upWord) ≤ 5
 state-length true = omega arith
 state-length false = omega arith
 

@@ -105,6 +105,10 @@ none-held (x ∷ a) at = none-held a (next at)
 abbrev pub Prints : List ℕ → List ℕ → Printed → List ℕ → Type 0
 Prints text s x t = (x ≡ answerPrinted text s) × ((t ≡ slicePrinted text s) × (writtenOf x ≡ writtenOf (answerPrinted text s)))
 
+pub fits-written : (text s : List ℕ) → length text ≤ length s → (answerPrinted text s ≡ Written (length text)) × (slicePrinted text s ≡ text ++ drop (length text) s)
+unfolding answerPrinted slicePrinted
+fits-written text s l = rw (le-leb (length text) (length s) l) (refl, refl)
+
 -- a text no longer than the slice, written from its beginning on
 module _ (text s u : List ℕ) (end : ℕ) (room : length s < lastPlace) (l : length text ≤ length s) (x : Put text 0 s u end) where
   all-written : end ≡ length text

@@ -20,7 +20,7 @@ pub fn print_from(fd: i32) {
     }
 }
 
-// The same for the statement of the books; its longest output is below 16 lines of 120 bytes for each of seven sites, and less than 4,096.
+// The same for the statement of the books; no statement is longer than the buffer: theorem statement-fits of statement_laws.
 pub fn state_from(fd: i32) {
     let mut input = [0; ROOM];
     let length = io::read_full(fd, &mut input);

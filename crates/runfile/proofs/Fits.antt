@@ -8,7 +8,7 @@ use mathlib.Core.List.{List, [], _∷_, _++_}
 use native.Mathlib.Omega.{arith}
 use lib.Dec.{eqb, ltb}
 use lib.ListN.{length, getD, drop, length-take, length-append}
-use borrow.Author.Tests.{ltb-true, eqb-true, le-leb}
+use borrow.Author.Tests.{ltb-true, eqb-true}
 use Rattle.sets.specs.Truth.{test, and-left, and-right}
 use Rattle.posting.specs.declared.Record.{Record}
 use Rattle.posting.specs.declared.Table.{Table}
@@ -30,6 +30,7 @@ use Rattle.printer.specs.declared.Printed.the-variants.{Written}
 use Rattle.printer.specs.Writing.{slicePrinted, answerPrinted}
 use Rattle.printer.specs.Output.{decimal, newline, refusedLine}
 use Rattle.printer.proofs.Lengths.{Small, Recorded, Shown, small-take, three-digits, printed-length}
+use Rattle.printer.proofs.Writing.{fits-written}
 use Rattle.decoder.specs.RunFile.{setupOf, eventCount, eventLimit, wellFormed, callAt, callsOf}
 use Rattle.runfile.specs.Program.{endedOn, refusals, printedRun, printedFrom, printed}
 use Rattle.runfile.proofs.Programs.{few-events, start-accepted}
@@ -82,7 +83,7 @@ refusals-length b [] = refl
 refusals-length b (c ∷ l) = ap suc (refusals-length (taking b c .board) l)
 
 -- a start
-start-small : (n f matrix : ℕ) → refusalOf (starting n f matrix .answer) < 1_000
+pub start-small : (n f matrix : ℕ) → refusalOf (starting n f matrix .answer) < 1_000
 unfolding starting
 start-small n f matrix = judged-small _ blankBoard _ refl refl
 
@@ -109,7 +110,7 @@ good-shown numbers b quiet few small g = record {
 -- ---- the lengths
 
 -- of the buffer that the program has of io
-abbrev bufferLength : ℕ
+abbrev pub bufferLength : ℕ
 bufferLength = 65_536
 
 run-length : (b : Board) (calls : List Call) → length calls ≤ eventLimit → Good (running b calls) → length (printedRun b calls) ≤ bufferLength
@@ -121,7 +122,7 @@ run-length b calls few g =
     let sites : endedOn last (isQuiet last) .n ≤ 7 = unfold endedOn in good-sites last g in
     omega (arith, printed-length numbers (endedOn last (isQuiet last)) (good-shown numbers last (isQuiet last) events (refusals-small b calls) g), events, sites)
 
-refused-length : (refusal : ℕ) → refusal < 1_000 → length (refusedLine refusal) ≤ bufferLength
+pub refused-length : (refusal : ℕ) → refusal < 1_000 → length (refusedLine refusal) ≤ bufferLength
 unfolding refusedLine
 refused-length refusal h = omega (arith, length-append (decimal refusal) newline, three-digits refusal h)
 
@@ -150,5 +151,4 @@ output-fits input =
 -- So into the buffer every output is written, and whole.
 pub all-written : (input buffer : List ℕ) → length buffer ≡ 65_536
     → (answerPrinted (printed input) buffer ≡ Written (length (printed input))) × (slicePrinted (printed input) buffer ≡ printed input ++ drop (length (printed input)) buffer)
-unfolding answerPrinted slicePrinted
-all-written input buffer e = rw (le-leb (length (printed input)) (length buffer) (omega (arith, output-fits input, e))) (refl, refl)
+all-written input buffer e = fits-written (printed input) buffer (omega (arith, output-fits input, e))

@@ -1,7 +1,8 @@
--- What the proofs of runfile share, and the evaluated case.
+-- What the proofs of runfile share, and the evaluated files.
 -- Assumes nothing.
 pub mod Events
 pub mod Runs
 pub mod Programs
 pub mod Fits
+pub mod Computes
 pub mod Evaluated

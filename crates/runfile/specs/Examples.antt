@@ -1,39 +1,11 @@
--- Files by their bytes: document 01's "Whole case" with the text that it prints, and files that are well formed and malformed.
+-- Files by their bytes: a header, a start that is refused, and files that are well formed and malformed.
 -- Rests on nothing.
 use Prim.Native.Nat.{ℕ}
 use mathlib.Core.List.{List, [], _∷_, _++_}
 
--- n 3, f 1, 0x5B6C
-abbrev header : List ℕ
+-- mark `RUN`, version 1; n 3, f 1, 0x5B6C
+abbrev pub header : List ℕ
 header = 82 ∷ 85 ∷ 78 ∷ 0 ∷ 1 ∷ 3 ∷ 1 ∷ 0x5B ∷ 0x6C ∷ []
-
--- ---- the whole case: site 0 offers TRADE 1, 2, 1000; site 0 receives FIRST 0 from 0; the same again
-
-abbrev firstReceived : List ℕ
-firstReceived = 2 ∷ 0 ∷ 0 ∷ 0 ∷ 0 ∷ 0 ∷ 0 ∷ 0 ∷ 0 ∷ 255 ∷ []
-
-abbrev pub wholeFile : List ℕ
-wholeFile = header ++ ((1 ∷ 0 ∷ 0 ∷ 1 ∷ 2 ∷ 0 ∷ 0 ∷ 3 ∷ 232 ∷ 255 ∷ []) ++ (firstReceived ++ firstReceived))
-
-abbrev pub wholeText : List ℕ
-wholeText =
-    -- E 1 ok
-    69 ∷ 32 ∷ 49 ∷ 32 ∷ 111 ∷ 107 ∷ 10
-    -- E 2 ok
-    ∷ 69 ∷ 32 ∷ 50 ∷ 32 ∷ 111 ∷ 107 ∷ 10
-    -- E 3 no 11
-    ∷ 69 ∷ 32 ∷ 51 ∷ 32 ∷ 110 ∷ 111 ∷ 32 ∷ 49 ∷ 49 ∷ 10
-    -- S 0 up
-    ∷ 83 ∷ 32 ∷ 48 ∷ 32 ∷ 117 ∷ 112 ∷ 10
-    -- S 1 up
-    ∷ 83 ∷ 32 ∷ 49 ∷ 32 ∷ 117 ∷ 112 ∷ 10
-    -- S 2 up
-    ∷ 83 ∷ 32 ∷ 50 ∷ 32 ∷ 117 ∷ 112 ∷ 10
-    -- L
-    ∷ 76 ∷ 10
-    -- Q no
-    ∷ 81 ∷ 32 ∷ 110 ∷ 111 ∷ 10
-    ∷ []
 
 -- ---- refusals
 

@@ -1,0 +1,3 @@
+-- The table of specs/, evaluated.
+-- Assumes nothing.
+pub mod Evaluated

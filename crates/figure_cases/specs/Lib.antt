@@ -1,0 +1,3 @@
+-- A table of what stands in a slice once books have filled it.
+-- Rests on cases.
+pub mod Figures

@@ -1,0 +1,2 @@
+-- No definition: the theorems of this crate speak of those of statements.
+-- Rests on nothing.
