@@ -6,15 +6,31 @@ use std::process::Command;
 use std::time::SystemTime;
 use std::{env, fs};
 
-/// The crate and its dependencies, all of which its line in crates.txt names.
-fn crates(root: &Path, name: &str) -> Vec<PathBuf> {
-    let text = fs::read_to_string(root.join("crates.txt")).expect("crates.txt is at the root");
+/// The crates that a crate's line in crates.txt names.
+fn named(text: &str, name: &str) -> Vec<String> {
     let line = text
         .lines()
-        .find_map(|line| line.split_once(':').filter(|(own, _)| *own == name))
-        .expect("crates.txt has a line for the crate");
-    let names = std::iter::once(name).chain(line.1.split_whitespace());
-    names.map(|name| root.join("crates").join(name)).collect()
+        .find_map(|line| line.split_once(':').filter(|(own, _)| *own == name));
+    let names = line.map(|(_, names)| names).unwrap_or("");
+    names.split_whitespace().map(str::to_string).collect()
+}
+
+/// The crate and all that it rests on.
+fn crates(root: &Path, name: &str) -> Vec<PathBuf> {
+    let text = fs::read_to_string(root.join("crates.txt")).expect("crates.txt is at the root");
+    let mut all = vec![name.to_string()];
+    let mut next = 0;
+    while next < all.len() {
+        for below in named(&text, &all[next]) {
+            if !all.contains(&below) {
+                all.push(below);
+            }
+        }
+        next += 1;
+    }
+    all.iter()
+        .map(|name| root.join("crates").join(name))
+        .collect()
 }
 
 /// When a file, or the latest one below a folder, was changed.

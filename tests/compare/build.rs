@@ -4,5 +4,5 @@
 include!("../library.rs");
 
 fn main() {
-    link("exported");
+    link("exports");
 }

@@ -1,5 +1,5 @@
 -- A fresh board shows the theory's blank state.
--- Rests on Shows and invariants. Assumes nothing.
+-- Rests on Shows, on machine and broadcast. Assumes nothing.
 use Prim.Native.Nat.{ℕ, zero, suc, _*_, _<_, _≤_}
 use mathlib.Core.Path.{_≡_, refl, sym, ap, _∙_}
 use mathlib.Core.Bool.{Bool, true, false, cond, not, _&&_, and-false}
@@ -9,20 +9,20 @@ use native.Mathlib.Decide.{decLt}
 use lib.Dec.{eqb, ltb}
 use lib.ListN.{length, getD, replicate, length-replicate, getD-replicate, List·getD-eq-default}
 use Rattle.sets.specs.declared.Set.{Set}
-use Rattle.sets.specs.Truth.{test, never, not-so}
+use Rattle.sets.proofs.Truth.{test, never, not-so}
 use Rattle.sets.specs.Masks.{hasBit}
-use Rattle.sets.specs.MaskLaws.{has-bit-zero}
-use Rattle.sets.specs.WordLaws.{member-empty}
+use Rattle.sets.proofs.MaskLaws.{has-bit-zero}
+use Rattle.sets.proofs.WordLaws.{member-empty}
 use Rattle.sets.specs.Sets.{words, capacity, has, emptySet, ofWords}
 use Rattle.posting.specs.Conflicts.{offered, emptyTable}
-use Rattle.posting.specs.ConflictLaws.{offered-below}
+use Rattle.posting.proofs.ConflictLaws.{offered-below}
 use Rattle.posting.specs.Records.{numbersOf, emptyRecord}
-use Rattle.posting.specs.RecordLaws.{numbers-empty}
+use Rattle.posting.proofs.RecordLaws.{numbers-empty}
 use Rattle.site.specs.declared.Setup.{Setup}
 use Rattle.site.specs.declared.Tally.{Tally}
 use Rattle.site.specs.Sites.{sites, blankSite, blankTally, noSet, noSite, noTally}
-use Rattle.flight.specs.ArrayLaws.{zero-at}
-use Rattle.flight.specs.FlightLaws.{empty-in-flight, empty-good, empty-carried}
+use Rattle.flight.proofs.ArrayLaws.{zero-at}
+use Rattle.flight.proofs.FlightLaws.{empty-in-flight, empty-good, empty-carried}
 use Rattle.machine.specs.declared.Board.{Board}
 use Rattle.machine.specs.Boards.{freshBoard, siteAt, tallyAt}
 use Rattle.broadcast.specs.Machine.{World, State}

@@ -1,5 +1,5 @@
 -- The sends of a step, whole or cut, are one message to the sites of a mask; which sites the theory's cut lets them reach.
--- Rests on flight's laws and broadcast's definitions. Assumes nothing.
+-- Rests on steps, flight and broadcast. Assumes nothing.
 use Prim.Native.Nat.{ℕ, zero, suc, _-_, _^_, _<_, _≤_, min}
 use mathlib.Core.Path.{_≡_, refl, sym, ap, _∙_}
 use mathlib.Core.Logic.{_⊎_, inl, inr}
@@ -13,19 +13,21 @@ use lib.Seq.{take-nil}
 use lib.Pow.{pow-lt, pow-pos, ones-lt, pow-mono}
 use borrow.Author.Tests.{lt-ltb, le-ltb, ltb-true, eq-eqb, ne-eqb}
 use Rattle.sets.specs.declared.Set.{Set}
-use Rattle.sets.specs.Truth.{test, never, both-ways, and-left, and-right, and-intro}
+use Rattle.sets.proofs.Truth.{test, never, both-ways, and-left, and-right, and-intro}
 use Rattle.sets.specs.Masks.{hasBit}
-use Rattle.sets.specs.MaskLaws.{has-bit-pow, has-bit-zero}
-use Rattle.sets.specs.WordLaws.{empty-shape}
+use Rattle.sets.proofs.MaskLaws.{has-bit-pow, has-bit-zero}
+use Rattle.sets.proofs.WordLaws.{empty-shape}
 use Rattle.sets.specs.Sets.{words, capacity, emptySet, Shape}
 use Rattle.site.specs.Sites.{sites}
 use Rattle.site.specs.Sends.{FIRST, SECOND, THIRD, DELIVER, forms, Send, first, second, third, deliver, entry, toAll, toOthers}
 use Rattle.flight.specs.declared.Flight.{Flight}
-use Rattle.flight.specs.Flights.{Shape as FlightShape, less, sendingMask, sendingAll, sending}
-use Rattle.flight.specs.CellLaws.{has-bit-ones, has-bit-less}
-use Rattle.flight.specs.FlightLaws.{send-mask}
-use Rattle.flight.specs.SendLaws.{upTo, placeOf, place-up-to, length-to-all, length-to-others, take-to-others}
-use Rattle.flight.specs.BroadcastLaws.{Broadcast, third-broadcast, mask-none, first-all-mask, to-all-mask, to-others-mask, first-others-mask, has-bit-others}
+use Rattle.flight.specs.Flights.{less, sendingAll, sending}
+use Rattle.flight.specs.Shapes.{Shape as FlightShape}
+use Rattle.flight.specs.ByMask.{sendingMask}
+use Rattle.flight.proofs.CellLaws.{has-bit-ones, has-bit-less}
+use Rattle.flight.proofs.FlightLaws.{send-mask}
+use Rattle.flight.proofs.SendLaws.{upTo, placeOf, place-up-to, length-to-all, length-to-others, take-to-others}
+use Rattle.flight.proofs.BroadcastLaws.{Broadcast, third-broadcast, mask-none, first-all-mask, to-all-mask, to-others-mask, first-others-mask, has-bit-others}
 use Rattle.steps.specs.declared.Cut.{Cut}
 use Rattle.steps.specs.declared.Cut.the-variants.{Whole, After}
 use Rattle.broadcast.specs.Machine.{World, whole, part, goes}

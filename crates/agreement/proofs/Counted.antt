@@ -1,5 +1,5 @@
 -- The theory's counts and tests, beside the ones of masks and the tests of sets.
--- Rests on Shows, World and sets' laws. Assumes nothing.
+-- Rests on site and broadcast. Assumes nothing.
 use Prim.Native.Nat.{ℕ, zero, suc, _+_, _-_, _*_, _^_, _<_, _≤_}
 use mathlib.Core.Path.{_≡_, refl, sym, ap, _∙_}
 use mathlib.Core.Logic.{_⊎_, inl, inr, _≢_}
@@ -14,15 +14,15 @@ use lib.ListN.{length}
 use borrow.Author.Tests.{eqb-true, eq-eqb, ne-eqb}
 use Rattle.sets.specs.declared.Set.{Set}
 use Rattle.sets.specs.Below as below
-use Rattle.sets.specs.Truth.{test, never, not-so, both-ways, and-left, and-right, and-intro, or-cases, or-left, or-right}
+use Rattle.sets.proofs.Truth.{test, never, not-so, both-ways, and-left, and-right, and-intro, or-cases, or-left, or-right}
 use Rattle.sets.specs.Masks.{hasBit}
-use Rattle.sets.specs.MaskLaws.{ones-count, has-bit-and}
+use Rattle.sets.proofs.MaskLaws.{ones-count, has-bit-and}
 use Rattle.sets.specs.Words.{member}
-use Rattle.sets.specs.WordLaws.{member-intersect, member-insert, member-empty, member-below, subset-member, member-subset, intersect-shape, empty-shape}
+use Rattle.sets.proofs.WordLaws.{member-intersect, member-insert, member-empty, member-below, subset-member, member-subset, intersect-shape, empty-shape}
 use Rattle.sets.specs.Sets.{words, capacity, has, with, meet, subset, emptySet, Shape}
 use Rattle.posting.specs.declared.Table.{Table}
 use Rattle.posting.specs.Conflicts.{offered, conflict, conflictSet}
-use Rattle.posting.specs.ConflictLaws.{offered-below, conflict-set-shape, has-conflict-set, conflict-itself}
+use Rattle.posting.proofs.ConflictLaws.{offered-below, conflict-set-shape, has-conflict-set, conflict-itself}
 use Rattle.site.specs.Steps.{alone}
 use Rattle.broadcast.specs.Counts.{bit, count, majority, nowhere}
 use Rattle.broadcast.specs.Machine.{World, clear}

@@ -9,7 +9,7 @@ use lib.Dec.{eqb}
 use borrow.Author.Tests.{eq-eqb, ne-eqb}
 use Rattle.posting.specs.declared.Table.{Table}
 use Rattle.posting.specs.Records.{numbersOf}
-use Rattle.posting.specs.RecordLaws.{Places}
+use Rattle.posting.proofs.RecordLaws.{Places}
 use Rattle.site.specs.declared.Site.{Site}
 use Rattle.site.specs.Sites.{siteDelivered}
 use Rattle.site.specs.Sends.{Step}
@@ -19,7 +19,7 @@ use Rattle.steps.specs.declared.Cut.the-variants.{Whole, After}
 use Rattle.machine.proofs.SoundFacts.{RecordSound}
 use Rattle.invariants.proofs.SiteSound.{AllOffered}
 use Rattle.invariants.proofs.CarriedOut.{siteAfter}
-use Rattle.broadcast.specs.Lists.{deliverAll}
+use Rattle.broadcast.specs.Deliveries.{deliverAll}
 use Rattle.broadcast.specs.Machine.{World, State, lasts, deliverAt}
 use Rattle.broadcast.specs.Machine as theory
 use Rattle.agreement.proofs.Casts.{cutBy}

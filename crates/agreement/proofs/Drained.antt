@@ -1,5 +1,5 @@
 -- A drain is the run of its events: it counts them, ends quiet or spent, and 6,784 is always enough. Lists with drains are lists of calls.
--- Rests on Nexts and Proved. Assumes nothing.
+-- Rests on Agreement, Drains, Simulated and Proved, on drain. Assumes nothing.
 use Prim.Native.Nat.{ℕ, zero, suc, _+_, _*_, _<_, _≤_}
 use mathlib.Core.Path.{_≡_, refl, sym, ap, _∙_, subst}
 use mathlib.Core.Logic.{_⊎_, inl, inr}
@@ -8,7 +8,7 @@ use mathlib.Core.List.{List, [], _∷_, _++_, append-assoc, append-nil}
 use native.Mathlib.Omega.{arith}
 use native.Mathlib.Nat.{mul-le-mul, mul-le-mul-left}
 use lib.ListN.{length}
-use Rattle.sets.specs.Truth.{test, never}
+use Rattle.sets.proofs.Truth.{test, never}
 use Rattle.sets.specs.Sets.{capacity}
 use Rattle.site.specs.declared.Setup.{Setup}
 use Rattle.site.specs.Sites.{sites}
@@ -29,7 +29,7 @@ use Rattle.machine.proofs.Facts.{setup-sites}
 use Rattle.invariants.proofs.Reached.{Good, good-sites, call-good, run-good}
 use Rattle.invariants.proofs.Start.{fresh-good, start-taken}
 use Rattle.agreement.specs.Agreement.{ceilingOf, BooksAgree, BooksAgreeAfter}
-use Rattle.agreement.specs.Drains.{Item, call, drain, eventsOf, callsOf, boardAfter, runningAll, expanded, BooksAgreeAfterAll, DrainSays}
+use Rattle.agreement.specs.Drains.{Item, call, drain, eventsOf, standsFor, boardAfter, runningAll, expanded, BooksAgreeAfterAll, DrainSays}
 use Rattle.drain.proofs.Loop.{draining-none, draining-event}
 use Rattle.drain.proofs.NextEvent.{not-none, next-accepted, next-acts, next-none, quiet-next}
 use Rattle.agreement.proofs.Simulated.{run-more}
@@ -205,7 +205,7 @@ module _ (setup : Setup) (ok : setupOk setup ≡ true) (calls : List Call) (limi
 
 -- ---- lists with drains among the calls
 
-item-runs : (b : Board) → Good b → (i : Item) → boardAfter b i ≡ running b (callsOf b i)
+item-runs : (b : Board) → Good b → (i : Item) → boardAfter b i ≡ running b (standsFor b i)
 item-runs b g (call c) = unfold running in refl
 item-runs b g (drain limit) =
     let sound = facts-sound b (g .shape) (good-sites b g) (g .sound) in
@@ -217,10 +217,10 @@ unfolding runningAll expanded
 all-runs b g [] = unfold running in refl
 all-runs b g (i ∷ l) =
     let same = item-runs b g i in
-    let after : Good (boardAfter b i) = subst Good (sym same) (run-good b (callsOf b i) g) in
+    let after : Good (boardAfter b i) = subst Good (sym same) (run-good b (standsFor b i) g) in
     all-runs (boardAfter b i) after l
     ∙ ap (λ (v : Board). running v (expanded (boardAfter b i) l)) same
-    ∙ sym (run-append b (callsOf b i) (expanded (boardAfter b i) l))
+    ∙ sym (run-append b (standsFor b i) (expanded (boardAfter b i) l))
 
 -- The books agree after every list with drains.
 pub books-agree-drains : (n f matrix : ℕ) → accepted (starting n f matrix .answer) ≡ true → (items : List Item)

@@ -7,7 +7,7 @@ use mathlib.Core.List.{List, [], _∷_, _++_}
 use lib.Dec.{eqb}
 use lib.ListN.{take}
 use Rattle.sets.specs.declared.Set.{Set}
-use Rattle.sets.specs.Truth.{never}
+use Rattle.sets.proofs.Truth.{never}
 use Rattle.site.specs.Sends.{Send, first, second, third, deliver, entry, toAll, toOthers}
 use Rattle.steps.specs.declared.Cut.{Cut}
 use Rattle.steps.specs.declared.Cut.the-variants.{Whole, After}

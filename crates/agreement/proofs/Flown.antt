@@ -10,16 +10,18 @@ use native.Mathlib.Decide.{ℕ-discrete}
 use lib.Dec.{eqb, ltb}
 use borrow.Author.Tests.{eq-eqb, ne-eqb, eqb-true, lt-ltb}
 use Rattle.sets.specs.declared.Set.{Set}
-use Rattle.sets.specs.Truth.{test, never, not-so}
+use Rattle.sets.proofs.Truth.{test, never, not-so}
 use Rattle.sets.specs.Masks.{hasBit}
-use Rattle.sets.specs.WordLaws.{member-empty}
+use Rattle.sets.proofs.WordLaws.{member-empty}
 use Rattle.sets.specs.Sets.{words, capacity, has, emptySet, Shape}
 use Rattle.site.specs.Sites.{sites}
 use Rattle.site.specs.Sends.{FIRST, SECOND, THIRD, DELIVER, forms, Send}
 use Rattle.flight.specs.declared.Flight.{Flight}
-use Rattle.flight.specs.Flights.{Shape as FlightShape, inFlight, goodTo, carriedBy, sendingMask, sendingAll, takingOut}
-use Rattle.flight.specs.CellLaws.{sameCell}
-use Rattle.flight.specs.FlightLaws.{mask-in-flight, mask-good, mask-carried, taking-in-flight, taking-good, taking-carried}
+use Rattle.flight.specs.Flights.{inFlight, goodTo, carriedBy, sendingAll, takingOut}
+use Rattle.flight.specs.Shapes.{Shape as FlightShape}
+use Rattle.flight.specs.ByMask.{sendingMask}
+use Rattle.flight.proofs.CellLaws.{sameCell}
+use Rattle.flight.proofs.FlightLaws.{mask-in-flight, mask-good, mask-carried, taking-in-flight, taking-good, taking-carried}
 use Rattle.broadcast.specs.Machine.{World, State, at2, at3, send, take}
 use Rattle.agreement.proofs.Casts.{Cast, eqb-turned}
 use Rattle.agreement.proofs.Seen.{cond-or}

@@ -13,7 +13,7 @@ use lib.ListN.{length, take}
 use lib.Seq.{take-nil}
 use borrow.Author.Tests.{eq-eqb, ne-eqb, eqb-true}
 use Rattle.sets.specs.declared.Set.{Set}
-use Rattle.sets.specs.Truth.{test, never, not-so}
+use Rattle.sets.proofs.Truth.{test, never, not-so}
 use Rattle.sets.specs.Masks.{hasBit}
 use Rattle.sets.specs.Sets.{capacity, has}
 use Rattle.posting.specs.declared.Table.{Table}

@@ -12,11 +12,11 @@ use lib.ListN.{length, take}
 use lib.Seq.{take-nil}
 use borrow.Author.Tests.{eqb-true, eq-eqb, ne-eqb}
 use Rattle.sets.specs.declared.Set.{Set}
-use Rattle.sets.specs.Truth.{test, never, not-so, and-left, and-right}
-use Rattle.sets.specs.WordLaws.{empty-shape, insert-shape}
+use Rattle.sets.proofs.Truth.{test, never, not-so, and-left, and-right}
+use Rattle.sets.proofs.WordLaws.{empty-shape, insert-shape}
 use Rattle.sets.specs.Sets.{words, capacity, has, with, emptySet, Shape}
 use Rattle.posting.specs.Conflicts.{offered}
-use Rattle.posting.specs.ConflictLaws.{offered-below}
+use Rattle.posting.proofs.ConflictLaws.{offered-below}
 use Rattle.posting.specs.Records.{numbersOf}
 use Rattle.site.specs.declared.Site.{Site}
 use Rattle.site.specs.declared.Tally.{Tally}
@@ -24,10 +24,11 @@ use Rattle.site.specs.Sites.{sites, siteGot, siteDelivered}
 use Rattle.site.specs.Sends.{FIRST, SECOND, THIRD, DELIVER, forms, Send, deliver, toOthers, Step}
 use Rattle.site.specs.Steps.{ownerOf, noStep, onDeliver, deliveringAll}
 use Rattle.flight.specs.declared.Flight.{Flight}
-use Rattle.flight.specs.Flights.{Shape as FlightShape, inFlight, takingOut, sendingAll}
-use Rattle.flight.specs.FlightLaws.{taking-shape}
-use Rattle.flight.specs.SendLaws.{placeOf}
-use Rattle.flight.specs.BroadcastLaws.{deliver-broadcast}
+use Rattle.flight.specs.Flights.{inFlight, takingOut, sendingAll}
+use Rattle.flight.specs.Shapes.{Shape as FlightShape}
+use Rattle.flight.proofs.FlightLaws.{taking-shape}
+use Rattle.flight.proofs.SendLaws.{placeOf}
+use Rattle.flight.proofs.BroadcastLaws.{deliver-broadcast}
 use Rattle.machine.specs.declared.Board.{Board}
 use Rattle.steps.specs.declared.Cut.{Cut}
 use Rattle.steps.specs.declared.Cut.the-variants.{Whole, After}
@@ -40,7 +41,7 @@ use Rattle.invariants.proofs.Judged.{Acts, ReceiptTaken}
 use Rattle.invariants.proofs.CarriedOut.{sendsOut, siteAfter}
 use Rattle.invariants.proofs.FlightSound.{MessageSound}
 use Rattle.invariants.proofs.Reached.{Good, good-flight, good-sites}
-use Rattle.broadcast.specs.Lists.{deliverAll}
+use Rattle.broadcast.specs.Deliveries.{deliverAll}
 use Rattle.broadcast.specs.Machine.{World, State, at2, at3, goes, lasts, sendDeliver, takeDeliver, get, deliverAt, down, downIf}
 use Rattle.broadcast.specs.Machine as theory
 use Rattle.broadcast.specs.Runs.{Event, Allowed, does, Receipt, relay, arrive}

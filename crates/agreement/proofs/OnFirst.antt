@@ -11,20 +11,21 @@ use lib.ListN.{length}
 use borrow.Author.Tests.{eqb-true}
 use Rattle.sets.specs.declared.Set.{Set}
 use Rattle.sets.specs.Masks.{hasBit}
-use Rattle.sets.specs.WordLaws.{insert-shape, empty-shape}
+use Rattle.sets.proofs.WordLaws.{insert-shape, empty-shape}
 use Rattle.sets.specs.Sets.{words, capacity, has, with, emptySet, Shape}
 use Rattle.posting.specs.declared.Table.{Table}
 use Rattle.posting.specs.Conflicts.{offered, conflictSet}
-use Rattle.posting.specs.ConflictLaws.{offered-below}
+use Rattle.posting.proofs.ConflictLaws.{offered-below}
 use Rattle.site.specs.declared.Site.{Site}
 use Rattle.site.specs.declared.Setup.{Setup}
 use Rattle.site.specs.Sites.{sites, siteSeen}
 use Rattle.site.specs.Sends.{FIRST, SECOND, THIRD, DELIVER, forms, Send, second, toAll, Step}
 use Rattle.site.specs.Steps.{alone, onFirst, deliveringAll}
 use Rattle.flight.specs.declared.Flight.{Flight}
-use Rattle.flight.specs.Flights.{Shape as FlightShape, inFlight, goodTo, takingOut, sendingAll}
-use Rattle.flight.specs.FlightLaws.{taking-shape}
-use Rattle.flight.specs.BroadcastLaws.{second-broadcast}
+use Rattle.flight.specs.Flights.{inFlight, goodTo, takingOut, sendingAll}
+use Rattle.flight.specs.Shapes.{Shape as FlightShape}
+use Rattle.flight.proofs.FlightLaws.{taking-shape}
+use Rattle.flight.proofs.BroadcastLaws.{second-broadcast}
 use Rattle.machine.specs.declared.Board.{Board}
 use Rattle.steps.specs.declared.Cut.{Cut}
 use Rattle.steps.specs.declared.Cut.the-variants.{Whole, After}

@@ -10,21 +10,21 @@ use native.Mathlib.Decide.{ℕ-discrete}
 use lib.Dec.{eqb, ltb}
 use borrow.Author.Tests.{eqb-true, eq-eqb, ne-eqb, lt-ltb, le-ltb}
 use lib.ListN.{length}
-use Rattle.sets.specs.Truth.{test, never, both-ways, not-so, and-left, and-right, or-cases, or-left, or-right}
+use Rattle.sets.proofs.Truth.{test, never, both-ways, not-so, and-left, and-right, or-cases, or-left, or-right}
 use Rattle.sets.specs.Masks.{hasBit}
-use Rattle.sets.specs.WordLaws.{empty-shape}
+use Rattle.sets.proofs.WordLaws.{empty-shape}
 use Rattle.sets.specs.Sets.{words, capacity, has, emptySet}
 use Rattle.posting.specs.declared.Posting.{Posting}
 use Rattle.posting.specs.declared.Table.{Table}
 use Rattle.posting.specs.Conflicts.{offered, row, tableWith}
-use Rattle.posting.specs.ConflictLaws.{offered-below, below-offered}
+use Rattle.posting.proofs.ConflictLaws.{offered-below, below-offered}
 use Rattle.site.specs.declared.Site.{Site}
 use Rattle.site.specs.Sites.{sites}
 use Rattle.site.specs.Sends.{FIRST, SECOND, THIRD, DELIVER, Send, first, toAll, Step}
 use Rattle.site.specs.Steps.{ownerOf, onOffer}
 use Rattle.flight.specs.declared.Flight.{Flight}
 use Rattle.flight.specs.Flights.{inFlight, goodTo, carriedBy, sendingAll}
-use Rattle.flight.specs.BroadcastLaws.{first-broadcast}
+use Rattle.flight.proofs.BroadcastLaws.{first-broadcast}
 use Rattle.machine.specs.declared.Board.{Board}
 use Rattle.steps.specs.declared.Cut.{Cut}
 use Rattle.steps.specs.declared.Cut.the-variants.{Whole, After}

@@ -10,15 +10,15 @@ use native.Mathlib.Decide.{ℕ-discrete}
 use lib.Dec.{eqb, ltb}
 use lib.Count.{ones}
 use borrow.Author.Tests.{eq-eqb, ne-eqb}
-use Rattle.sets.specs.Truth.{test, never, not-so}
-use Rattle.sets.specs.MaskLaws.{has-bit-set}
+use Rattle.sets.proofs.Truth.{test, never, not-so}
+use Rattle.sets.proofs.MaskLaws.{has-bit-set}
 use Rattle.sets.specs.Numbers.{listed}
-use Rattle.sets.specs.WordLaws.{member-remove}
+use Rattle.sets.proofs.WordLaws.{member-remove}
 use Rattle.sets.specs.Sets.{capacity, has, without}
 use Rattle.posting.specs.Conflicts.{offered}
-use Rattle.posting.specs.ConflictLaws.{offered-below}
+use Rattle.posting.proofs.ConflictLaws.{offered-below}
 use Rattle.posting.specs.Records.{numbersOf, contains, append}
-use Rattle.posting.specs.RecordLaws.{numbers-append}
+use Rattle.posting.proofs.RecordLaws.{numbers-append}
 use Rattle.site.specs.declared.Setup.{Setup}
 use Rattle.site.specs.Sites.{plus}
 use Rattle.machine.specs.declared.Board.{Board}

@@ -15,12 +15,12 @@ use Rattle.sets.specs.declared.Set.{Set}
 use Rattle.sets.specs.Numbers.{listed}
 use Rattle.sets.specs.Words.{member, membersBelow}
 use Rattle.sets.specs.Words as words
-use Rattle.sets.specs.WordLaws.{listed-members}
+use Rattle.sets.proofs.WordLaws.{listed-members}
 use Rattle.sets.specs.Sets.{capacity, has, membersOf, Shape}
 use Rattle.posting.specs.Conflicts.{offered}
-use Rattle.posting.specs.ConflictLaws.{offered-below}
+use Rattle.posting.proofs.ConflictLaws.{offered-below}
 use Rattle.posting.specs.Records.{numbersOf}
-use Rattle.posting.specs.RecordLaws.{length-numbers}
+use Rattle.posting.proofs.RecordLaws.{length-numbers}
 use Rattle.site.specs.declared.Site.{Site}
 use Rattle.site.specs.Sites.{sites, sitePlace}
 use Rattle.site.specs.Sends.{Send, Step}
@@ -38,7 +38,7 @@ use Rattle.invariants.proofs.SiteSound.{AllOffered}
 use Rattle.invariants.proofs.StepSound.{all-offered}
 use Rattle.invariants.proofs.CarriedOut.{sendsOut, siteAfter}
 use Rattle.invariants.proofs.Reached.{Good, good-sites, at-listed}
-use Rattle.broadcast.specs.Lists as lists
+use Rattle.broadcast.specs.Deliveries as lists
 use Rattle.broadcast.specs.Machine.{World, State, downIf, deliverAt, advance, entryOf}
 use Rattle.broadcast.specs.Machine as theory
 use Rattle.broadcast.specs.Runs.{Event, Allowed, does, onRead, nextAt}

@@ -15,14 +15,14 @@ use lib.Seq.{getD-set-same, take-nil}
 use lib.Pow.{pow-lt}
 use borrow.Author.Tests.{eqb-true, eq-eqb, ne-eqb}
 use Rattle.sets.specs.declared.Set.{Set}
-use Rattle.sets.specs.Truth.{test, never, not-so, both-ways, and-left, and-right, and-intro, and-implied, or-cases, or-left, or-right, or-neither}
+use Rattle.sets.proofs.Truth.{test, never, not-so, both-ways, and-left, and-right, and-intro, and-implied, or-cases, or-left, or-right, or-neither}
 use Rattle.sets.specs.Masks.{hasBit}
-use Rattle.sets.specs.MaskLaws.{has-bit-and, has-bit-set}
-use Rattle.sets.specs.WordLaws.{empty-shape, insert-shape, intersect-shape, member-intersect}
+use Rattle.sets.proofs.MaskLaws.{has-bit-and, has-bit-set}
+use Rattle.sets.proofs.WordLaws.{empty-shape, insert-shape, intersect-shape, member-intersect}
 use Rattle.sets.specs.Sets.{words, capacity, has, with, withIf, meet, emptySet, Shape}
 use Rattle.posting.specs.declared.Table.{Table}
 use Rattle.posting.specs.Conflicts.{offered, conflict, conflictSet}
-use Rattle.posting.specs.ConflictLaws.{offered-below, conflict-set-shape, has-conflict-set}
+use Rattle.posting.proofs.ConflictLaws.{offered-below, conflict-set-shape, has-conflict-set}
 use Rattle.site.specs.declared.Site.{Site}
 use Rattle.site.specs.declared.Setup.{Setup}
 use Rattle.site.specs.Sites.{sites, heardFor, goodFor, plus, plusIf, siteSeen, siteHeard, siteStepped}
@@ -30,8 +30,9 @@ use Rattle.site.specs.Sends.{FIRST, SECOND, THIRD, DELIVER, forms, Send, third,
 use Rattle.site.specs.Steps.{ownerOf, alone, quorum, noStep, onSecond, stepSecond}
 use Rattle.site.specs.Steps as steps
 use Rattle.flight.specs.declared.Flight.{Flight}
-use Rattle.flight.specs.Flights.{Shape as FlightShape, inFlight, goodTo, takingOut, sendingAll}
-use Rattle.flight.specs.FlightLaws.{taking-shape}
+use Rattle.flight.specs.Flights.{inFlight, goodTo, takingOut, sendingAll}
+use Rattle.flight.specs.Shapes.{Shape as FlightShape}
+use Rattle.flight.proofs.FlightLaws.{taking-shape}
 use Rattle.machine.specs.declared.Board.{Board}
 use Rattle.steps.specs.declared.Cut.{Cut}
 use Rattle.machine.specs.Boards.{siteAt, tallyAt, isDown, boardFlight}

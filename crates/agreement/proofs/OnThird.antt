@@ -15,14 +15,14 @@ use lib.Seq.{take-nil, getD-set-same, getD-set-other}
 use lib.Pow.{pow-lt}
 use borrow.Author.Tests.{eqb-true, eq-eqb, ne-eqb, lt-ltb, le-ltb}
 use Rattle.sets.specs.declared.Set.{Set}
-use Rattle.sets.specs.Truth.{test, never, not-so, and-left, and-right, and-intro, and-implied, or-cases, or-left, or-right, or-neither}
+use Rattle.sets.proofs.Truth.{test, never, not-so, and-left, and-right, and-intro, and-implied, or-cases, or-left, or-right, or-neither}
 use Rattle.sets.specs.Masks.{hasBit}
-use Rattle.sets.specs.MaskLaws.{has-bit-and, has-bit-set}
-use Rattle.sets.specs.WordLaws.{empty-shape, insert-shape, union-shape, member-union, member-insert}
+use Rattle.sets.proofs.MaskLaws.{has-bit-and, has-bit-set}
+use Rattle.sets.proofs.WordLaws.{empty-shape, insert-shape, union-shape, member-union, member-insert}
 use Rattle.sets.specs.Sets.{words, capacity, has, with, join, emptySet, Shape}
 use Rattle.posting.specs.declared.Record.{Record}
 use Rattle.posting.specs.Conflicts.{offered}
-use Rattle.posting.specs.ConflictLaws.{offered-below}
+use Rattle.posting.proofs.ConflictLaws.{offered-below}
 use Rattle.site.specs.declared.Site.{Site}
 use Rattle.site.specs.declared.Setup.{Setup}
 use Rattle.site.specs.declared.Tally.{Tally}
@@ -31,9 +31,10 @@ use Rattle.site.specs.Sends.{FIRST, SECOND, THIRD, DELIVER, forms, Send, delive
 use Rattle.site.specs.Steps.{ownerOf, quorum, noStep, tallied, onThird, stepThird}
 use Rattle.site.specs.Steps as steps
 use Rattle.flight.specs.declared.Flight.{Flight}
-use Rattle.flight.specs.Flights.{Shape as FlightShape, inFlight, carriedBy, takingOut, sendingAll}
-use Rattle.flight.specs.FlightLaws.{taking-shape}
-use Rattle.flight.specs.BroadcastLaws.{deliver-broadcast}
+use Rattle.flight.specs.Flights.{inFlight, carriedBy, takingOut, sendingAll}
+use Rattle.flight.specs.Shapes.{Shape as FlightShape}
+use Rattle.flight.proofs.FlightLaws.{taking-shape}
+use Rattle.flight.proofs.BroadcastLaws.{deliver-broadcast}
 use Rattle.machine.specs.declared.Board.{Board}
 use Rattle.steps.specs.declared.Cut.{Cut}
 use Rattle.steps.specs.declared.Cut.the-variants.{Whole, After}

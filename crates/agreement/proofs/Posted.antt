@@ -8,7 +8,7 @@ use lib.ListN.{length, getD, length-take}
 use lib.Seq.{getD-take}
 use Rattle.sets.specs.Sets.{capacity}
 use Rattle.posting.specs.declared.Record.{Record}
-use Rattle.posting.specs.KindLaws.{fields}
+use Rattle.posting.proofs.KindLaws.{fields}
 use Rattle.posting.specs.Conflicts.{row}
 use Rattle.posting.specs.Records.{numbersOf}
 use Rattle.books.specs.Books.{blank, books, total}

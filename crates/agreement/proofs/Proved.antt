@@ -8,16 +8,16 @@ use mathlib.Core.List.{List, [], _∷_, _++_}
 use native.Mathlib.Omega.{arith}
 use native.Mathlib.Nat.{mul-le-mul-left}
 use lib.ListN.{length, getD}
-use Rattle.sets.specs.Truth.{test, never}
+use Rattle.sets.proofs.Truth.{test, never}
 use Rattle.sets.specs.Sets.{capacity, has}
 use Rattle.posting.specs.declared.Posting.{Posting}
 use Rattle.posting.specs.declared.Table.{Table}
 use Rattle.posting.specs.Kinds.{fieldsOk}
-use Rattle.posting.specs.KindLaws.{fields}
+use Rattle.posting.proofs.KindLaws.{fields}
 use Rattle.posting.specs.Conflicts.{noPosting, row, offered, conflict}
-use Rattle.posting.specs.ConflictLaws.{offered-below, below-offered}
+use Rattle.posting.proofs.ConflictLaws.{offered-below, below-offered}
 use Rattle.posting.specs.Records.{numbersOf}
-use Rattle.posting.specs.RecordLaws.{length-numbers}
+use Rattle.posting.proofs.RecordLaws.{length-numbers}
 use Rattle.books.specs.Books.{Books, blank, books, numbers}
 use Rattle.books.proofs.Lines.{Exchange, no-conflict-exchange}
 use Rattle.site.specs.declared.Setup.{Setup}

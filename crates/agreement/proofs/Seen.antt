@@ -13,19 +13,19 @@ use lib.ListN.{length, getD, set}
 use lib.Seq.{getD-set-same, getD-set-other}
 use borrow.Author.Tests.{eq-eqb, ne-eqb, eqb-true}
 use Rattle.sets.specs.declared.Set.{Set}
-use Rattle.sets.specs.Truth.{test, never, not-so, both-ways}
+use Rattle.sets.proofs.Truth.{test, never, not-so, both-ways}
 use Rattle.sets.specs.Masks.{hasBit}
-use Rattle.sets.specs.MaskLaws.{has-bit-set}
+use Rattle.sets.proofs.MaskLaws.{has-bit-set}
 use Rattle.sets.specs.Numbers.{listed}
 use Rattle.sets.specs.Words.{member, insertIf}
-use Rattle.sets.specs.WordLaws.{member-insert, member-insert-if}
+use Rattle.sets.proofs.WordLaws.{member-insert, member-insert-if}
 use Rattle.sets.specs.Sets.{capacity, has, with, withIf, Shape}
 use Rattle.posting.specs.declared.Record.{Record}
 use Rattle.posting.specs.declared.Table.{Table}
 use Rattle.posting.specs.Conflicts.{offered}
-use Rattle.posting.specs.ConflictLaws.{offered-below}
+use Rattle.posting.proofs.ConflictLaws.{offered-below}
 use Rattle.posting.specs.Records.{numbersOf, contains, append}
-use Rattle.posting.specs.RecordLaws.{Places, numbers-append}
+use Rattle.posting.proofs.RecordLaws.{Places, numbers-append}
 use Rattle.site.specs.declared.Site.{Site}
 use Rattle.site.specs.Sites.{heardFor, goodFor, plus, plusIf, siteSeen, siteHeard, siteStepped, siteFinished, siteGot, sitePlace, siteDelivered}
 use Rattle.site.specs.Steps.{delivering, deliveringAll}
@@ -33,8 +33,9 @@ use Rattle.machine.proofs.Shapes.{SiteShape}
 use Rattle.machine.proofs.SoundFacts.{RecordSound}
 use Rattle.invariants.proofs.SiteSound.{AllOffered, delivering-sound, delivering-places}
 use Rattle.invariants.proofs.Room.{record-room}
-use Rattle.broadcast.specs.Lists.{mem, deliverAll}
-use Rattle.broadcast.specs.Lists as lists
+use Rattle.broadcast.specs.Lists.{mem}
+use Rattle.broadcast.specs.Deliveries.{deliverAll}
+use Rattle.broadcast.specs.Deliveries as lists
 use Rattle.broadcast.specs.Machine.{World, State, Cut, whole, part, at2, at3, join, see, step, joins, hearSecond, finish, get, deliverAt, advance}
 use Rattle.agreement.proofs.Casts.{eqb-turned}
 use Rattle.agreement.proofs.Shows.{SiteShows, SiteShowsIn}

@@ -9,13 +9,13 @@ use native.Mathlib.Omega.{arith}
 use lib.Dec.{eqb}
 use lib.ListN.{length, getD, replicate}
 use lib.Seq.{getD-take}
-use Rattle.sets.specs.Truth.{test, never}
+use Rattle.sets.proofs.Truth.{test, never}
 use Rattle.posting.specs.Records.{numbersOf}
 use Rattle.site.specs.declared.Setup.{Setup}
 use Rattle.site.specs.Sites.{sites}
 use Rattle.site.specs.Sends.{FIRST, SECOND, THIRD, DELIVER}
 use Rattle.flight.specs.Flights.{inFlight}
-use Rattle.flight.specs.ArrayLaws.{message-range}
+use Rattle.flight.proofs.ArrayLaws.{message-range}
 use Rattle.machine.specs.declared.Board.{Board}
 use Rattle.steps.specs.declared.Cut.{Cut}
 use Rattle.steps.specs.declared.Call.{Call}

@@ -5,13 +5,13 @@ use mathlib.Core.Path.{_≡_, refl, sym, ap, _∙_}
 use mathlib.Core.Logic.{_⊎_, inl, inr}
 use mathlib.Core.Bool.{Bool, true, false, cond, _&&_, and-comm, and-false}
 use native.Mathlib.Omega.{arith}
-use Rattle.sets.specs.Truth.{test, never, not-so, and-left, and-right, and-intro}
+use Rattle.sets.proofs.Truth.{test, never, not-so, and-left, and-right, and-intro}
 use Rattle.sets.specs.Sets.{capacity}
 use Rattle.posting.specs.declared.Posting.{Posting}
 use Rattle.posting.specs.declared.Table.{Table}
 use Rattle.posting.specs.Kinds.{symmetric, hasFixedPairs}
 use Rattle.posting.specs.Conflicts.{row, offered, conflict, conflicting}
-use Rattle.posting.specs.ConflictLaws.{conflict-turned, conflict-itself}
+use Rattle.posting.proofs.ConflictLaws.{conflict-turned, conflict-itself}
 use Rattle.site.specs.declared.Setup.{Setup}
 use Rattle.site.specs.Steps.{ownerOf}
 use Rattle.machine.specs.declared.Board.{Board}

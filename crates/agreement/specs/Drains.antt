@@ -29,9 +29,9 @@ eventsOf zero b = []
 eventsOf (suc left) b = elim (nextEvent b) [ none ↦ [] | event c ↦ c ∷ eventsOf left (taking b c .board) ]
 
 -- the calls that an item stands for, and the board after it; a refused drain does nothing
-abbrev pub callsOf : Board → Item → List Call
-callsOf b (call c) = c ∷ []
-callsOf b (drain limit) = cond (isSound b) (eventsOf limit b) []
+abbrev pub standsFor : Board → Item → List Call
+standsFor b (call c) = c ∷ []
+standsFor b (drain limit) = cond (isSound b) (eventsOf limit b) []
 
 abbrev pub boardAfter : Board → Item → Board
 boardAfter b (call c) = taking b c .board
@@ -44,7 +44,7 @@ runningAll b (i ∷ l) = runningAll (boardAfter b i) l
 
 unfoldable pub expanded : Board → List Item → List Call
 expanded b [] = []
-expanded b (i ∷ l) = callsOf b i ++ expanded (boardAfter b i) l
+expanded b (i ∷ l) = standsFor b i ++ expanded (boardAfter b i) l
 
 -- the books agree after a list with drains: of its calls and of the board that it ends on
 abbrev pub BooksAgreeAfterAll : ℕ → ℕ → Board → List Item → Type 0

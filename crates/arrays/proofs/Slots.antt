@@ -17,11 +17,11 @@ use borrow.Author.Tests.{eq-eqb, ne-eqb}
 use Rattle.sets.specs.declared.Set.{Set}
 use Rattle.sets.specs.Masks.{hasBit}
 use Rattle.sets.specs.Words.{member, insert, remove}
-use Rattle.sets.specs.WordLaws.{member-insert, insert-shape}
+use Rattle.sets.proofs.WordLaws.{member-insert, insert-shape}
 use Rattle.sets.specs.Sets.{words, capacity, ofWords, emptySet, has, with, without, Shape}
 use Rattle.flight.specs.Flights.{wordsFrom}
-use Rattle.flight.specs.ArrayLaws.{zero-at}
-use Rattle.flight.specs.CarriedLaws.{word-from, length-words-from}
+use Rattle.flight.proofs.ArrayLaws.{zero-at}
+use Rattle.flight.proofs.CarriedLaws.{word-from, length-words-from}
 use Rattle.arrays.specs.Layout.{slots, setsLong}
 use Rattle.arrays.specs.Arrays.{slotSet, storing, wordAt, hasIn, adding, dropping}
 

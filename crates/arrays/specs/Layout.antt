@@ -1,5 +1,5 @@
 -- Where each part of a board at work stands in its flat arrays.
--- Rests on sets, posting and site for the numbers of postings, words, accounts, kinds and sites. The code's constants of the same names are these.
+-- Rests on site. The code's constants of the same names are these.
 use Prim.Native.Nat.{ℕ, _+_, _*_}
 use Rattle.sets.specs.Sets.{words, capacity}
 use Rattle.posting.specs.Kinds.{kinds, accounts}

@@ -9,12 +9,12 @@ use native.Mathlib.Omega.{arith}
 use lib.Dec.{eqb}
 use lib.IntN.{ℤ, pos, negℤ, _+ℤ_, _-ℤ_, +ℤ-comm, +ℤ-idl, +ℤ-idr, +ℤ-invr}
 use borrow.Author.Tests.{eq-eqb, ne-eqb}
-use Rattle.sets.specs.Truth.{test}
+use Rattle.sets.proofs.Truth.{test}
 use Rattle.posting.specs.declared.Posting.{Posting}
 use Rattle.posting.specs.Kinds.{trade, accounts}
-use Rattle.posting.specs.KindLaws.{Fields, row-trade}
+use Rattle.posting.proofs.KindLaws.{Fields, row-trade}
 use Rattle.posting.specs.Conflicts.{touches}
-use Rattle.posting.specs.ConflictLaws.{touches-first, touches-second}
+use Rattle.posting.proofs.ConflictLaws.{touches-first, touches-second}
 use Rattle.books.specs.declared.Figures.{Figures}
 use Rattle.books.specs.Effect.{change, effect}
 use Rattle.books.specs.Books.{Books, post, totalTo, total}

@@ -1,5 +1,5 @@
 -- Filling a list block by block: four numbers at a place, one block more after those that are there, a part that was lent and is back.
--- Assumes nothing.
+-- Rests on Books and Lists, on posting. Assumes nothing.
 use mathlib.Core.Path.{_≡_, refl, sym, ap, ap₂, _∙_}
 use mathlib.Core.List.{List, [], _∷_, _++_, append-assoc, append-nil}
 use Prim.Native.Nat.{ℕ, zero, suc, _+_, _*_, _-_, _<_, _≤_}
@@ -15,7 +15,7 @@ use Rattle.posting.specs.declared.Table.{Table}
 use Rattle.posting.specs.Kinds.{accounts}
 use Rattle.posting.specs.Records.{numbersOf}
 use Rattle.books.specs.declared.Records.{Records}
-use Rattle.books.specs.Books.{Books, books, four, numbersTo, numbers, recordOf, numbersOfSites, figuresOf, sheetOf, zeros}
+use Rattle.books.specs.Books.{Books, books, four, numbersTo, numbers, recordNo, numbersOfSites, figuresOn, sheetOf, zeros}
 use Rattle.books.proofs.Lists.{getD-tabulate}
 
 module _ {A : Type 0} where
@@ -77,25 +77,25 @@ numbers-ext zero s t h = refl
 numbers-ext (suc n) s t h = ap₂ _++_ (numbers-ext n s t (λ k l. h k (omega arith))) (ap four (h n (omega arith)))
 
 -- a sheet's numbers are those of its books
-pub sheet-numbers : (s : Books) → numbers (figuresOf (sheetOf s)) ≡ numbers s
-sheet-numbers s = numbers-ext accounts (figuresOf (sheetOf s)) s (λ k h. getD-tabulate accounts s zeros k h)
+pub sheet-numbers : (s : Books) → numbers (figuresOn (sheetOf s)) ≡ numbers s
+sheet-numbers s = numbers-ext accounts (figuresOn (sheetOf s)) s (λ k h. getD-tabulate accounts s zeros k h)
 
 pub length-sites : (n : ℕ) (opening : Books) (table : Table) (records : Records) → length (numbersOfSites n opening table records) ≡ 64 * n
 unfolding numbersOfSites
 length-sites zero opening table records = refl
 length-sites (suc n) opening table records =
-    let b = books opening table (numbersOf (recordOf records n)) in
+    let b = books opening table (numbersOf (recordNo records n)) in
     omega (arith, length-append (numbersOfSites n opening table records) (numbers b), length-sites n opening table records, length-numbers accounts b)
 
 -- the numbers of one site more, put into the part from 64s
 pub next-site : (s : ℕ) (opening : Books) (table : Table) (records : Records) (l : List ℤ)
     → let done = numbersOfSites s opening table records ++ drop (64 * s) l in
-    take (64 * s) done ++ (numbers (books opening table (numbersOf (recordOf records s))) ++ drop 64 (drop (64 * s) done))
+    take (64 * s) done ++ (numbers (books opening table (numbersOf (recordNo records s))) ++ drop 64 (drop (64 * s) done))
     ≡ numbersOfSites (s + 1) opening table records ++ drop (64 * (s + 1)) l
 unfolding numbersOfSites
 next-site s opening table records l =
     let sites = numbersOfSites s opening table records in
-    let block = numbers (books opening table (numbersOf (recordOf records s))) in
+    let block = numbers (books opening table (numbersOf (recordNo records s))) in
     let done = sites ++ drop (64 * s) l in
     ap (λ (r : List ℤ). take (64 * s) done ++ (block ++ r)) (drop-drop 64 (64 * s) done)
     ∙ sym (append-assoc (take (64 * s) done) block (drop (64 * s + 64) done))

@@ -1,5 +1,5 @@
 -- Figures stay small: a bound after n postings, and room for one more while n is at most the capacity, for any capacity up to 10,000.
--- Assumes nothing.
+-- Rests on Effect, Bounds, Effects and Signed, on posting. Assumes nothing.
 use mathlib.Core.Path.{_≡_, refl}
 use mathlib.Core.Bool.{Bool, true, false, cond}
 use Prim.Native.Nat.{ℕ, zero, suc, _+_, _*_, _<_, _≤_}
@@ -9,7 +9,7 @@ use lib.IntN.{ℤ, pos, natAbs, _+ℤ_, _-ℤ_, _*ℤ_}
 use lib.Dec.{eqb}
 use Rattle.posting.specs.declared.Posting.{Posting}
 use Rattle.posting.specs.Kinds.{trade, rate}
-use Rattle.posting.specs.KindLaws.{Fields, row-trade, row-rate}
+use Rattle.posting.proofs.KindLaws.{Fields, row-trade, row-rate}
 use Rattle.posting.specs.Conflicts.{touches}
 use Rattle.books.specs.declared.Figures.{Figures}
 use Rattle.books.specs.Effect.{sizeOfCall, onTrade, onRate, onCall, onNet, change, effect}

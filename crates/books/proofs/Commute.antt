@@ -10,14 +10,14 @@ use native.Mathlib.Omega.{arith}
 use lib.Dec.{eqb}
 use lib.IntN.{ℤ, pos, natAbs, negℤ, _+ℤ_, _-ℤ_}
 use borrow.Author.Tests.{eq-eqb}
-use Rattle.sets.specs.Truth.{test, never, and-left, and-right, not-flips}
+use Rattle.sets.proofs.Truth.{test, never, and-left, and-right, not-flips}
 use Rattle.sets.specs.Below.{allBelow}
-use Rattle.sets.specs.BelowLaws.{all-at}
+use Rattle.sets.proofs.BelowLaws.{all-at}
 use Rattle.posting.specs.declared.Posting.{Posting}
 use Rattle.posting.specs.Kinds.{trade, rate, kinds, fieldsOk, inRow, fixedPair, fixedPairs, allPairs}
-use Rattle.posting.specs.KindLaws.{pairs-at}
+use Rattle.posting.proofs.KindLaws.{pairs-at}
 use Rattle.posting.specs.Conflicts.{touches, shares}
-use Rattle.posting.specs.ConflictLaws.{shares-at}
+use Rattle.posting.proofs.ConflictLaws.{shares-at}
 use Rattle.books.specs.declared.Figures.{Figures}
 use Rattle.books.specs.Effect.{sizeOfCall, change, effect}
 use Rattle.books.specs.Books.{Books, post}

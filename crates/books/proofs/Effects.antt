@@ -6,11 +6,11 @@ use mathlib.Core.Logic.{inl, inr}
 use Prim.Native.Nat.{ℕ, _≤_}
 use native.Mathlib.Omega.{arith}
 use borrow.Author.Tests.{ne-eqb}
-use Rattle.sets.specs.Truth.{not-so}
+use Rattle.sets.proofs.Truth.{not-so}
 use Rattle.posting.specs.declared.Posting.{Posting}
 use Rattle.posting.specs.Kinds.{trade, rate, call, net, kinds}
 use Rattle.posting.specs.Conflicts.{touches}
-use Rattle.posting.specs.ConflictLaws.{touches-cases}
+use Rattle.posting.proofs.ConflictLaws.{touches-cases}
 use Rattle.books.specs.declared.Figures.{Figures}
 use Rattle.books.specs.Effect.{change, effect}
 

@@ -11,11 +11,11 @@ use lib.IntN.{pos}
 use lib.ListN.{length, getD, take}
 use lib.Seq.{take-suc}
 use borrow.Author.Tests.{ne-eqb}
-use Rattle.sets.specs.Truth.{never, not-so, and-left, and-right, and-intro}
+use Rattle.sets.proofs.Truth.{never, not-so, and-left, and-right, and-intro}
 use Rattle.posting.specs.declared.Posting.{Posting}
 use Rattle.posting.specs.declared.Table.{Table}
 use Rattle.posting.specs.Kinds.{kinds, fixedPair, matrixEntry, hasFixedPairs}
-use Rattle.posting.specs.KindLaws.{Fields, row-kind, has-fixed-pair}
+use Rattle.posting.proofs.KindLaws.{Fields, row-kind, has-fixed-pair}
 use Rattle.posting.specs.Conflicts.{row, touches, shares, conflict, conflicting}
 use Rattle.books.specs.Effect.{effect}
 use Rattle.books.specs.Books.{Books, blank, post, books, totalTo, total}

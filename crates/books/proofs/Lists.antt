@@ -1,5 +1,5 @@
 -- Lists made of a function's values: their length and elements, when a list is one, and the change of one or two elements.
--- Assumes nothing.
+-- Rests on Books. Assumes nothing.
 use mathlib.Core.Path.{_≡_, refl, sym, _∙_}
 use mathlib.Core.Bool.{cond}
 use mathlib.Core.List.{List, [], _∷_}

@@ -15,13 +15,13 @@ use Rattle.posting.specs.declared.Posting.{Posting}
 use Rattle.posting.specs.declared.Table.{Table}
 use Rattle.posting.specs.declared.Record.{Record}
 use Rattle.posting.specs.Kinds.{accounts}
-use Rattle.posting.specs.KindLaws.{Fields, fields}
+use Rattle.posting.proofs.KindLaws.{Fields, fields}
 use Rattle.posting.specs.Conflicts.{noPosting, row}
-use Rattle.posting.specs.ConflictLaws.{offered-below, touches-first, touches-second}
+use Rattle.posting.proofs.ConflictLaws.{offered-below, touches-first, touches-second}
 use Rattle.books.specs.declared.Figures.{Figures}
 use Rattle.books.specs.declared.Sheet.{Sheet}
 use Rattle.books.specs.Effect.{change, effect}
-use Rattle.books.specs.Books.{Books, blank, post, books, zeros, tabulate, figuresOf, sheetOf}
+use Rattle.books.specs.Books.{Books, blank, post, books, zeros, tabulate, figuresOn, sheetOf}
 use Rattle.books.specs.Bounds.{After, Room, Opening, Postable}
 use Rattle.books.proofs.Effects.{effect-touched, effect-untouched, touches-neither}
 use Rattle.books.proofs.Bounds.{effect-after, later, room}
@@ -82,11 +82,11 @@ module _ {n : ℕ} {s : Books} {p : Posting} {l : List Figures} {a : ℕ} (c : L
         (λ k h na nb. sym (effect-untouched p k (s k) (touches-neither p k na nb))))
 
 -- a sheet is that of its figures
-pub sheet-is : (sheet : Sheet) → length (sheet .accounts) ≡ accounts → sheet ≡ sheetOf (figuresOf sheet)
-sheet-is sheet e = ap (λ (l : List Figures). record { accounts = l }) (is-tabulate accounts (figuresOf sheet) zeros (sheet .accounts) e (λ k h. refl))
+pub sheet-is : (sheet : Sheet) → length (sheet .accounts) ≡ accounts → sheet ≡ sheetOf (figuresOn sheet)
+sheet-is sheet e = ap (λ (l : List Figures). record { accounts = l }) (is-tabulate accounts (figuresOn sheet) zeros (sheet .accounts) e (λ k h. refl))
 
 -- a sheet of zeros may be posted from
-pub blank-opening : Opening (figuresOf (sheetOf blank))
+pub blank-opening : Opening (figuresOn (sheetOf blank))
 blank-opening k h = rw (getD-tabulate accounts blank zeros k h) (record { position = omega arith; rate = omega arith; called = omega arith; settled = omega arith })
 
 -- ---- a record that may be posted
@@ -143,7 +143,7 @@ module _ (table : Table) (delivered : Record) (ok : Postable table delivered) wh
     line-posted = ap (λ (p : Posting). post p (books-to i)) posting-is ∙ next-line s table (delivered .numbers) i (omega (arith, early, long))
 
 -- past the sixteen accounts zeros are read, too
-pub blank-figures : figuresOf (sheetOf blank) ≡ blank
+pub blank-figures : figuresOn (sheetOf blank) ≡ blank
 unfolding tabulate
 blank-figures = fun-ext (λ k. at accounts k)
   where

@@ -1,5 +1,5 @@
 -- Signed numbers: the sizes of sums, differences and products, and what the machine makes of an operation on i64 whose result fits.
--- Assumes nothing.
+-- Rests on nothing of the repository. Assumes nothing.
 use mathlib.Core.Path.{_≡_, refl, sym, ap, ap₂, _∙_, subst}
 use mathlib.Core.Bool.{Bool, true, false, true≢false}
 use Prim.Native.Nat.{ℕ, zero, suc, _+_, _*_, _-_, _<_, _≤_}

@@ -64,20 +64,20 @@ abbrev pub noRecord : Record
 noRecord = record { count = 0; numbers = [] }
 
 -- the record of site s
-abbrev pub recordOf : Records → ℕ → Record
-recordOf records s = getD (records .sites) s noRecord
+abbrev pub recordNo : Records → ℕ → Record
+recordNo records s = getD (records .sites) s noRecord
 
 -- the numbers of the first n sites: those of site s from 64s on
 unfoldable pub numbersOfSites : ℕ → Books → Table → Records → List ℤ
 numbersOfSites zero opening table records = []
 numbersOfSites (suc s) opening table records =
-    numbersOfSites s opening table records ++ numbers (books opening table (numbersOf (recordOf records s)))
+    numbersOfSites s opening table records ++ numbers (books opening table (numbersOf (recordNo records s)))
 
 -- ---- books as a sheet
 
 -- the figures on a sheet
-abbrev pub figuresOf : Sheet → Books
-figuresOf sheet k = getD (sheet .accounts) k zeros
+abbrev pub figuresOn : Sheet → Books
+figuresOn sheet k = getD (sheet .accounts) k zeros
 
 -- f 0 to f (n - 1)
 unfoldable pub tabulate : {A : Type 0} → ℕ → (ℕ → A) → List A

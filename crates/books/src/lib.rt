@@ -1,5 +1,5 @@
 // The books: what postings do to the sixteen accounts, in exact sums, and the books of records in a lent slice.
-// Rests on posting.
+// Rests on posting, on masks and sets for small things.
 ghost use mathlib.Core.Path.{_≡_};
 ghost use mathlib.Core.Bool.{cond};
 ghost use mathlib.Core.List.{_++_};
@@ -9,16 +9,20 @@ ghost use lib.IntN.{natAbs, _*ℤ_};
 ghost use lib.ListN.{length, take, drop};
 ghost use Rattle.posting.specs.Records.{numbersOf};
 ghost use Rattle.books.specs.Effect.{sizeOfCall, onTrade, onRate, onCall, onNet, change};
-ghost use Rattle.books.specs.Books.{books, four, numbers, recordOf, numbersOfSites, figuresOf, sheetOf, blank};
+ghost use Rattle.books.specs.Books.{books, four, numbers, recordNo, numbersOfSites, figuresOn, sheetOf, blank};
 ghost use Rattle.books.specs.Bounds.{Room, Opening, Postable};
 use posting::Posting;
 use posting::Record;
 use posting::Table;
+use sets::wide;
 
-// How many accounts and how many sites there can be.
+// How many accounts there are, and how many sites there can be.
 pub const ACCOUNTS: usize = posting::ACCOUNTS as usize;
 
-pub const SITES: usize = 7;
+pub const SITES: usize = masks::SITES as usize;
+
+// How many numbers the books of a record have.
+pub const FIGURES: usize = 4 * ACCOUNTS;
 
 // The four numbers of an account.
 pub struct Figures {
@@ -144,16 +148,10 @@ fn change_b(p: Posting, s: Figures) -> Figures
     change(p, p.b, s)
 }
 
-fn wide(x: u8) -> usize
-    ensures { λ r. ⌜ r ≡ x ⌝ }
-{
-    x as usize
-}
-
 // The sheet of a record: its postings posted line by line on the opening figures. A posting touches its accounts a and b.
 pub fn posted(table: Table, delivered: Record, opening: Sheet) -> Sheet
-    requires { ⌜ Postable table delivered × Opening (figuresOf opening) ⌝ }
-    ensures { λ r. ⌜ r ≡ sheetOf (books (figuresOf opening) table (numbersOf delivered)) ⌝ }
+    requires { ⌜ Postable table delivered × Opening (figuresOn opening) ⌝ }
+    ensures { λ r. ⌜ r ≡ sheetOf (books (figuresOn opening) table (numbersOf delivered)) ⌝ }
 {
     let mut sheet = opening;
     let count = delivered.count;
@@ -190,7 +188,7 @@ fn put(s: Figures, at: usize, out: &mut [i64])
 // The first 64 numbers of the slice become the sheet's.
 pub fn fill(sheet: Sheet, out: &mut [i64])
     requires { ⌜ 64 ≤ length (now out) ⌝ }
-    ensures { λ _. ⌜ now (out .exit) ≡ numbers (figuresOf sheet) ++ drop 64 (now (out .entry)) ⌝ }
+    ensures { λ _. ⌜ now (out .exit) ≡ numbers (figuresOn sheet) ++ drop 64 (now (out .entry)) ⌝ }
 {
     for k in 0..ACCOUNTS {
         let s = sheet.accounts[k];
@@ -200,8 +198,8 @@ pub fn fill(sheet: Sheet, out: &mut [i64])
 
 // The books of a record fill the first 64 numbers of the slice; what lies beyond stays.
 pub fn books(table: Table, delivered: Record, opening: Sheet, out: &mut [i64])
-    requires { ⌜ Postable table delivered × Opening (figuresOf opening) × (64 ≤ length (now out)) ⌝ }
-    ensures { λ _. ⌜ now (out .exit) ≡ numbers (books (figuresOf opening) table (numbersOf delivered)) ++ drop 64 (now (out .entry)) ⌝ }
+    requires { ⌜ Postable table delivered × Opening (figuresOn opening) × (64 ≤ length (now out)) ⌝ }
+    ensures { λ _. ⌜ now (out .exit) ≡ numbers (books (figuresOn opening) table (numbersOf delivered)) ++ drop 64 (now (out .entry)) ⌝ }
 {
     let sheet = posted(table, delivered, opening);
     fill(sheet, out);
@@ -209,8 +207,8 @@ pub fn books(table: Table, delivered: Record, opening: Sheet, out: &mut [i64])
 
 // The books of the first n sites: the part of the slice from 64s is lent on for site s.
 pub fn books_all(table: Table, records: Records, n: usize, opening: Sheet, out: &mut [i64])
-    requires { ⌜ ((s : ℕ) → s < n → Postable table (recordOf records s)) × Opening (figuresOf opening) × (n ≤ 7) × (64 * n ≤ length (now out)) ⌝ }
-    ensures { λ _. ⌜ now (out .exit) ≡ numbersOfSites n (figuresOf opening) table records ++ drop (64 * n) (now (out .entry)) ⌝ }
+    requires { ⌜ ((s : ℕ) → s < n → Postable table (recordNo records s)) × Opening (figuresOn opening) × (n ≤ 7) × (64 * n ≤ length (now out)) ⌝ }
+    ensures { λ _. ⌜ now (out .exit) ≡ numbersOfSites n (figuresOn opening) table records ++ drop (64 * n) (now (out .entry)) ⌝ }
 {
     for s in 0..n {
         let delivered = records.sites[s];

@@ -1,6 +1,6 @@
 -- How a posting ends is settled once (S7, S8): by DELIVER, or by an entry that carries the union of the sets heard. From that,
 -- the order's interface: F1, what goes by DELIVER conflicts with nothing in an entry's set; F2, a conflicting entry carries it.
--- Assumes nothing.
+-- Rests on Lists, Counts, Machine, Runs, Tests, Steps, Voting and Tallies. Assumes nothing.
 use Prim.Native.Nat.{ℕ, _-_, _≤_}
 use mathlib.Core.Path.{_≡_, refl, sym, _∙_}
 use mathlib.Core.Logic.{_⊎_, inl, inr, ⊎-elim, _≢_}

@@ -1,5 +1,5 @@
 -- What it says that a SECOND or a THIRD comes late, or does not.
--- Assumes nothing.
+-- Rests on Machine, Runs and Tests. Assumes nothing.
 use Prim.Native.Nat.{ℕ, _-_, _≤_}
 use mathlib.Core.Path.{_≡_}
 use mathlib.Core.Logic.{_⊎_, inl, inr}

@@ -1,5 +1,5 @@
 -- What keeps a run going (L1 to L6), as facts of the sites that are up: a posting's next message is on its way until the step
--- that it asks for is done. `up` is any part of the sites that are up, so that a cut site has nothing to show. Assumes nothing.
+-- that it asks for is done. `up` is any part of the sites that are up, so that a cut site has nothing to show. Rests on Lists, Counts, Machine, Runs, Tests, Steps and Ending. Assumes nothing.
 use Prim.Native.Nat.{ℕ, _-_, _<_, _≤_}
 use mathlib.Core.Path.{_≡_, sym, ap, _∙_}
 use mathlib.Core.Logic.{_⊎_, inl, inr, _≢_}

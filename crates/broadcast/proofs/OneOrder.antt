@@ -6,7 +6,8 @@ use mathlib.Core.Logic.{inl, inr}
 use mathlib.Core.Bool.{Bool, true, false, not}
 use mathlib.Core.List.{List, [], _∷_, _++_, append-assoc}
 use native.Mathlib.Omega.{arith}
-use Rattle.broadcast.specs.Lists.{In, NoRepeat, Before, mem, Exchanges, keep, once, share, members}
+use Rattle.broadcast.specs.Lists.{In, NoRepeat, Before, mem, Exchanges, keep, share}
+use Rattle.broadcast.specs.Deliveries.{once, members}
 use Rattle.broadcast.specs.Counts.{nowhere}
 use Rattle.broadcast.specs.Machine.{World, State, entryOf, expand}
 use Rattle.broadcast.specs.Runs.{Event, Reached}

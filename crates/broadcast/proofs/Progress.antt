@@ -8,7 +8,8 @@ use mathlib.Core.List.{List, [], _∷_}
 use native.Mathlib.Omega.{arith}
 use lib.Dec.{eqb}
 use lib.Seq.{take-all}
-use Rattle.broadcast.specs.Lists.{In, members}
+use Rattle.broadcast.specs.Lists.{In}
+use Rattle.broadcast.specs.Deliveries.{members}
 use Rattle.broadcast.specs.Counts.{count}
 use Rattle.broadcast.specs.Machine.{World, State, Cut, whole, part, entryOf, expand, down, downIf, sendFirst, takeFirst, see, sendSecond, hearSecond, takeSecond, hearThird, takeThird, takeDeliver, deliverAt, append, advance}
 use Rattle.broadcast.specs.Runs.{lateSecond, lateThird, onOffer, onFirst, onSecond, onThird, onDeliver, onOrder, onRead, countSecond, countThird, arrive, nextAt, lost, MayCut, Event, offer, first, second, third, order, read, crash, Allowed, does, blank, Reached, start, next, Quiet}

@@ -1,5 +1,5 @@
 -- What a site's record says of the log (R1 to R4): no posting twice, all that the site has read, and of what did not come by
--- DELIVER, only what it has read, in the log's order. Assumes nothing.
+-- DELIVER, only what it has read, in the log's order. Rests on Lists, Machine, Runs, Late, Steps, Tests, Counts, Tallies, Ending and Safety. Assumes nothing.
 use Prim.Native.Nat.{ℕ, suc, _-_, _<_, _≤_}
 use mathlib.Core.Path.{_≡_, refl, sym, ap, _∙_}
 use mathlib.Core.Logic.{_⊎_, inl, inr}
@@ -9,7 +9,8 @@ use native.Mathlib.Omega.{arith}
 use lib.Dec.{eqb, leb}
 use lib.ListN.{length, take, drop, getD, length-append, take-append-drop}
 use lib.Seq.{take-suc, take-append-le}
-use Rattle.broadcast.specs.Lists.{In, NoRepeat, Before, mem, members, deliver, deliverAll}
+use Rattle.broadcast.specs.Lists.{In, NoRepeat, Before, mem}
+use Rattle.broadcast.specs.Deliveries.{members, deliver, deliverAll}
 use Rattle.broadcast.specs.Machine.{World, Oracle, Sites, State, Cut, whole, part, at2, entryOf, expand, down, downIf, sendFirst, takeFirst, see, sendSecond, hearSecond, takeSecond, hearThird, takeThird, finish, takeDeliver, get, deliverAt, append, advance}
 use Rattle.broadcast.specs.Runs.{heardOf, lateSecond, lateThird, onOffer, onFirst, onSecond, onThird, onDeliver, onOrder, onRead, countThird, conclude, relay, arrive, Event, offer, first, second, third, order, read, crash, Allowed, does, blank, Reached, start, next}
 use Rattle.broadcast.proofs.Late.{third-in-time}

@@ -1,5 +1,5 @@
 -- Every state that a run reaches is safe: the invariants of Voting, Tallies and Ending hold, and nothing names a posting that was
--- not offered (N0). Each small step keeps them, each event is a composition of small steps. Assumes nothing.
+-- not offered (N0). Each small step keeps them, each event is a composition of small steps. Rests on Lists, Machine, Runs, Late, Steps, Tests, Voting, Tallies and Ending. Assumes nothing.
 use Prim.Native.Nat.{ℕ, _-_, _<_, _≤_}
 use mathlib.Core.Path.{_≡_, refl, sym, _∙_}
 use mathlib.Core.Logic.{inl, inr}

@@ -1,5 +1,5 @@
 -- What a step puts there, and what it leaves as it was. The proofs about runs read the named steps of Runs through these facts,
--- so that each of them says what it needs of a step. Assumes nothing.
+-- so that each of them says what it needs of a step. Rests on Counts, Machine, Runs and Tests. Assumes nothing.
 use Prim.Native.Nat.{ℕ, _-_}
 use mathlib.Core.Path.{_≡_, refl}
 use mathlib.Core.Logic.{_⊎_, inl, inr}

@@ -1,5 +1,5 @@
 -- The third round is safe (S4 to S6): a set carried is a part of what its sender holds, and has all of that which conflicts.
--- Assumes nothing.
+-- Rests on Counts, Machine, Tests and Voting. Assumes nothing.
 use Prim.Native.Nat.{ℕ}
 use mathlib.Core.Path.{_≡_, _∙_}
 use mathlib.Core.Logic.{inl, inr}

@@ -1,5 +1,5 @@
 -- Uniform agreement (U): when nothing is left to do, a posting in the record of any site, up or down, is in the record of every site
--- that is up. It holds because a delivery follows its relays. Nothing else rests on it. Assumes nothing.
+-- that is up. It holds because a delivery follows its relays. Nothing else rests on it. Rests on Lists, Machine, Runs, Late, Steps, Tests, Ending, Safety, Records, Live and Progress. Assumes nothing.
 use Prim.Native.Nat.{ℕ, _-_, _<_}
 use mathlib.Core.Path.{_≡_, refl, _∙_}
 use mathlib.Core.Logic.{_⊎_, inl, inr}
@@ -7,7 +7,8 @@ use mathlib.Core.Bool.{Bool, true, false, _&&_}
 use mathlib.Core.List.{List, [], _∷_}
 use lib.Dec.{eqb, leb}
 use lib.ListN.{length}
-use Rattle.broadcast.specs.Lists.{In, members}
+use Rattle.broadcast.specs.Lists.{In}
+use Rattle.broadcast.specs.Deliveries.{members}
 use Rattle.broadcast.specs.Machine.{World, Delivers, Oracle, State, Cut, whole, part, lasts, at2, at3, entryOf, expand, down, downIf, sendFirst, takeFirst, see, sendSecond, hearSecond, takeSecond, hearThird, takeThird, finish, takeDeliver, get, deliverAt, append, advance}
 use Rattle.broadcast.specs.Runs.{heardOf, lateSecond, lateThird, onOffer, onFirst, onSecond, onThird, onDeliver, onOrder, onRead, countThird, conclude, relay, arrive, nextAt, Event, offer, first, second, third, order, read, crash, Allowed, does, blank, Reached, start, next, Quiet}
 use Rattle.broadcast.proofs.Late.{third-in-time}

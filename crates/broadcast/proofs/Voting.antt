@@ -1,5 +1,5 @@
 -- The first two rounds are safe (N0, S0 to S3, S5): what is seen was offered, a GOOD excludes a GOOD for a conflicting posting
--- from the same site, and no two conflicting postings are held anywhere. Assumes nothing.
+-- from the same site, and no two conflicting postings are held anywhere. Rests on Counts, Machine, Runs, Steps and Tests. Assumes nothing.
 use Prim.Native.Nat.{ℕ, _*_, _-_, _<_}
 use mathlib.Core.Path.{_≡_, _∙_}
 use mathlib.Core.Logic.{_⊎_, inl, inr}

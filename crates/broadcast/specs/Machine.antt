@@ -1,11 +1,11 @@
 -- The machine: what n sites hold, what is in flight, and what each step of the algorithm (document 003, Figure 1) does to that.
--- Rests on Lists and Counts. A set is a Boolean function; sites, postings and senders are numbers.
+-- Rests on Deliveries and Counts. A set is a Boolean function; sites, postings and senders are numbers.
 use Prim.Native.Nat.{ℕ, suc, _*_, _<_}
 use mathlib.Core.Path.{_≡_}
 use mathlib.Core.Bool.{Bool, true, false, cond, not, _&&_, _||_}
 use mathlib.Core.List.{List, [], _∷_, _++_}
 use lib.Dec.{eqb, ltb}
-use Rattle.broadcast.specs.Lists.{members, deliverAll}
+use Rattle.broadcast.specs.Deliveries.{members, deliverAll}
 use Rattle.broadcast.specs.Counts.{nowhere, majority}
 
 -- What no step changes: n sites, of which f may fail, the postings' owners, and which postings conflict.

@@ -9,9 +9,9 @@ use lib.Dec.{eqb, leb}
 use lib.IntN.{ℤ}
 use lib.ListN.{length}
 use borrow.Author.Tests.{ne-eqb, eqb-true, leb-true}
-use Rattle.sets.specs.Truth.{and-left, and-right}
+use Rattle.sets.proofs.Truth.{and-left, and-right}
 use Rattle.site.specs.declared.Setup.{Setup}
-use Rattle.steps.specs.Causes.{firstCause}
+use Rattle.steps.specs.CauseLists.{firstCause}
 use Rattle.machine.specs.declared.Board.{Board}
 use Rattle.machine.specs.declared.Answer.{Answer}
 use Rattle.machine.specs.declared.Outcome.{Outcome}
@@ -26,7 +26,7 @@ use Rattle.decoder.specs.RunFile.{setupOf, codeOf, eventOk, wellFormed, callsOf
 use Rattle.runfile.proofs.Programs.{file-refused, file-taken}
 use Rattle.by_value.specs.declared.Request.{Request}
 use Rattle.by_value.specs.declared.Reply.{Reply}
-use Rattle.by_value.specs.Answers.{noCount}
+use Rattle.counted.specs.Answers.{noCount}
 use Rattle.by_value.specs.Changed.{isRequest, requestOf, firstValue, replyOfCall, replyOfDrain, replyTo, figuresAfter, filledLong, filled, Called, handedBack, changedAt, calledFrom, mayCall, callChanged}
 
 -- an answer and two slices are those of a definition

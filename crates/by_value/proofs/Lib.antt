@@ -1,6 +1,5 @@
 -- What the proofs of the calls by value share.
 -- Rests on the specs.
 pub mod LeftBy
-pub mod DrainLaws
 pub mod Filled
 pub mod CallLaws

@@ -1,5 +1,5 @@
 -- A changed board takes a call: of the board that a run file leaves one number is replaced, and it takes the call that ten bytes ask for (docs/FORMATS.md).
--- Rests on decoder for the file and an event, on image for a board as a row of numbers, on machine and drain for the calls.
+-- Rests on decoder for the file and an event, on counted for the answer of what is refused, on image for a board as a row of numbers, on machine and drain for the calls.
 use Prim.Native.Nat.{ℕ, _+_}
 use mathlib.Core.Bool.{Bool, cond, _&&_, _||_}
 use mathlib.Core.List.{List, [], _∷_, _++_}
@@ -21,7 +21,7 @@ use Rattle.decoder.specs.RunFile.{setupOf, codeOf, eventOk, wellFormed, callOf,
 use Rattle.by_value.specs.declared.Request.{Request}
 use Rattle.by_value.specs.declared.Request.the-variants.{Take, Drain, Books}
 use Rattle.by_value.specs.declared.Reply.{Reply}
-use Rattle.by_value.specs.Answers.{noCount}
+use Rattle.counted.specs.Answers.{noCount}
 
 -- ---- what ten bytes ask for
 

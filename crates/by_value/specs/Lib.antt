@@ -1,5 +1,3 @@
--- Answers: a count and a slice. Drains: a run file run and drained. Changed: a changed board takes a call.
--- Rests on decoder, drain, image and machine.
-pub mod Answers
-pub mod Drains
+-- A changed board takes a call.
+-- Rests on counted, decoder, drain, image and machine.
 pub mod Changed

@@ -1,5 +1,5 @@
 // A changed board takes a call: of the board that a file leaves one number is replaced, then the board takes the call that ten bytes ask for.
-// Rests on run for the calls by value, on runfile for the board that a file leaves, on image for a board as a row of numbers.
+// Rests on run for the calls by value, on counted for NO_COUNT, on runfile for the board that a file leaves, on image for a board as a row of numbers.
 ghost use Prim.Native.Nat.{_≤_};
 ghost use mathlib.Core.Path.{_≡_};
 ghost use mathlib.Core.List.{_++_};
@@ -10,13 +10,13 @@ ghost use Rattle.drain.specs.Drain.{drained};
 ghost use Rattle.decoder.specs.RunFile.{eventLimit, eventCount, callsOf};
 ghost use Rattle.runfile.specs.Program.{StaysSound};
 ghost use Rattle.by_value.specs.Changed.{isRequest, requestOf, replyOfCall, replyOfDrain, replyTo, figuresAfter, filledLong, filled, handedBack, mayCall, callChanged};
-use crate::NO_COUNT;
 use crate::Reply;
 use crate::Request;
 use crate::run::take_call;
 use arrays::BYTES;
 use arrays::COUNTS;
 use arrays::SETS;
+use counted::NO_COUNT;
 use decoder::file::EVENT;
 use decoder::file::EVENTS;
 use decoder::file::call_of;
@@ -35,13 +35,13 @@ use image::writing::write_image;
 use machine::Answer;
 use machine::Board;
 use machine::taking::board_of;
-use opening::start_refusal;
 use runfile::run::refusal_of;
 use runfile::run::run_events;
 use sets::POSTINGS;
-use shown::figures::books_all;
 use site::Setup;
 use steps::Call;
+use whole_board::figures::books_all;
+use whole_board::opening::start_refusal;
 
 // The codes that no event of a run file has.
 const DRAIN: u8 = 0;

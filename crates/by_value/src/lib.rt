@@ -1,13 +1,10 @@
 // The service's calls by value, from the bytes of a run file: a whole run, and one call of a board of which one number was changed.
-// Rests on machine, opening, shown and drain for the calls, on decoder for files, on image for a board as a row of numbers.
+// Rests on machine, opening, shown and drain for the calls, on decoder for files, on counted for answers, on image for a board as a row of numbers.
 use machine::Board;
 use steps::Call;
 
 pub mod changed;
 pub mod run;
-
-// The answer where there is neither a count nor the number of a refusal: no slice is so long.
-pub const NO_COUNT: u64 = 18_446_744_073_709_551_615;
 
 // What ten bytes ask of a board: an event, a drain, or the books of all sites.
 pub enum Request {

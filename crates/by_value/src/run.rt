@@ -1,10 +1,10 @@
 // A run file and a drain through the calls by value: start, the event's own call for each event, drain, and the books of all sites.
-// Rests on machine, opening, shown and drain for the calls, on decoder for the file.
+// Rests on counted.
 ghost use mathlib.Core.Path.{_≡_};
 ghost use Rattle.machine.specs.Runs.{taking, running};
 ghost use Rattle.decoder.specs.RunFile.{callsOf};
-ghost use Rattle.by_value.specs.Drains.{drainedRun, drainedFile};
-use crate::NO_COUNT;
+ghost use Rattle.counted.specs.Drains.{drainedRun, drainedFile};
+use counted::NO_COUNT;
 use decoder::file::call_at;
 use decoder::file::event_count;
 use decoder::file::setup_of;
@@ -12,10 +12,10 @@ use decoder::file::well_formed;
 use drain::drain;
 use machine::Board;
 use machine::Outcome;
-use opening::start;
 use runfile::run::refusal_of;
-use shown::figures::books_all;
 use steps::Call;
+use whole_board::figures::books_all;
+use whole_board::opening::start;
 
 // A call, by the method that has its name.
 pub fn take_call(board: Board, call: Call) -> Outcome

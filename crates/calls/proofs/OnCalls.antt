@@ -16,7 +16,7 @@ use Rattle.site.specs.Sends.{FIRST}
 use Rattle.flight.specs.Flights.{sendingTo}
 use Rattle.steps.specs.declared.Cut.{Cut}
 use Rattle.steps.specs.declared.Cut.the-variants.{Whole, After}
-use Rattle.steps.specs.Causes.{firstCause, offerCauses}
+use Rattle.steps.specs.CauseLists.{firstCause, offerCauses}
 use Rattle.steps.specs.Cuts.{sitesTo}
 use Rattle.arrays.specs.Layout.{poolSlot, countAt, loggedAt, placeAt, downAt, logAt}
 use Rattle.arrays.specs.Arrays.{Arrays, arrays, withSets, withCounts, withBytes, hasIn, dropping, byte, marked}

@@ -7,13 +7,13 @@ use mathlib.Core.Bool.{true}
 use native.Mathlib.Omega.{arith}
 use lib.Dec.{leb}
 use borrow.Author.Tests.{leb-false}
-use Rattle.sets.specs.Truth.{test}
+use Rattle.sets.proofs.Truth.{test}
 use Rattle.sets.specs.Sets.{capacity}
 use Rattle.posting.specs.declared.Posting.{Posting}
 use Rattle.posting.specs.Kinds.{fieldsOk, kinds, accounts}
-use Rattle.posting.specs.KindLaws.{fields, row-kind}
+use Rattle.posting.proofs.KindLaws.{fields, row-kind}
 use Rattle.site.specs.Sites.{sites}
-use Rattle.steps.specs.Causes.{firstCause, siteCauses, messageCauses, offerCauses}
+use Rattle.steps.specs.CauseLists.{firstCause, siteCauses, messageCauses, offerCauses}
 
 pub site-below : (n down p why : ℕ) → n ≤ sites → why ≡ firstCause (siteCauses n down p) → why ≡ 0 → p < sites
 unfolding firstCause

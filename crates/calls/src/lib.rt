@@ -1,5 +1,5 @@
 // Offer, order, read and crash, whole and cut, with their refusals.
-// Rests on arrays, index and delivery, on steps for refusals and cuts.
+// Rests on flat.
 ghost use Prim.Native.Nat.{ℕ, _<_, _≤_};
 ghost use mathlib.Core.Path.{_≡_};
 ghost use mathlib.Core.List.{List};

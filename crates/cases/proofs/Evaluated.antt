@@ -1,5 +1,5 @@
 -- M1 to M10 hold: the definitions compute to what the table says.
--- Assumes nothing.
+-- Rests on Trials, Cases and Computes. Assumes nothing.
 use mathlib.Core.Path.{refl}
 use Rattle.cases.specs.Trials.{results, Hold}
 use Rattle.cases.specs.Cases.{marked}

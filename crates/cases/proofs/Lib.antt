@@ -1,4 +1,4 @@
 -- The table of specs/, evaluated, and what makes any table of cases compute.
--- Assumes nothing.
+-- Rests on the specs. Assumes nothing.
 pub mod Computes
 pub mod Evaluated

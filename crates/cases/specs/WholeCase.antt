@@ -1,5 +1,5 @@
 -- Document 01's "Whole case" by its bytes: the run file, and the text that `board` prints for it.
--- Rests on the header of runfile's Examples.
+-- Rests on runfile.
 use Prim.Native.Nat.{ℕ}
 use mathlib.Core.List.{List, [], _∷_, _++_}
 use Rattle.runfile.specs.Examples.{header}

@@ -11,9 +11,9 @@ use lib.ListN.{getD}
 use lib.Bits.{bitOr, or-add-and, and-le-l, and-le-r}
 use borrow.Author.Tests.{eq-eqb}
 use Rattle.sets.specs.declared.Set.{Set}
-use Rattle.sets.specs.Truth.{never, not-so}
+use Rattle.sets.proofs.Truth.{never, not-so}
 use Rattle.sets.specs.Below.{allBelow}
-use Rattle.sets.specs.BelowLaws.{all-at, all-from}
+use Rattle.sets.proofs.BelowLaws.{all-at, all-from}
 use Rattle.posting.specs.declared.Table.{Table}
 use Rattle.site.specs.Steps.{ownerOf}
 use Rattle.flight.specs.Flights.{cells}

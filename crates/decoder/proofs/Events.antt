@@ -1,5 +1,5 @@
 -- The bytes of an event, where it is lent as a part of the file, and its unused bytes, by its code.
--- Assumes nothing.
+-- Rests on RunFile, on sets. Assumes nothing.
 use Prim.Native.Nat.{ℕ, _+_, _-_, _*_}
 use mathlib.Core.Path.{_≡_, ap}
 use mathlib.Core.Logic.{_≢_}

@@ -1,3 +1,3 @@
 -- Events: the bytes of an event, as a part of the file.
--- Assumes nothing.
+-- Rests on the specs. Assumes nothing.
 pub mod Events

@@ -1,3 +1,3 @@
 -- RunFile: the file, and the call of each event.
--- Rests on machine, site, books and sets.
+-- Rests on steps and books.
 pub mod RunFile

@@ -1,5 +1,5 @@
 -- A run file as bytes: header, events, when it is well formed, and the call of each event (document 01, "Program `board`").
--- Rests on machine for calls, on sets and books for tests and lists by number. Past the end of the bytes zeros are read.
+-- Rests on steps and books. Past the end of the bytes zeros are read.
 use Prim.Native.Nat.{ℕ, _+_, _-_, _*_, _/_, _%_}
 use mathlib.Core.Bool.{Bool, cond, not, _&&_, _||_}
 use mathlib.Core.List.{List}

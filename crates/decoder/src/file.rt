@@ -1,10 +1,12 @@
 // A run file's header and events, read from bytes: whether it is well formed, and the call of each event.
-// Rests on machine for calls and site for the setup. Past the end of the bytes zeros are read.
+// Rests on steps for calls, site for the setup, sets for wider numbers. Past the end of the bytes zeros are read.
 ghost use Prim.Native.Nat.{_≤_};
 ghost use mathlib.Core.Path.{_≡_};
 ghost use mathlib.Core.Bool.{_&&_};
 ghost use lib.ListN.{length};
 ghost use Rattle.decoder.specs.RunFile.{byteAt, pair, quad, hasMark, headerOk, setupOf, eventCount, lengthOk, knownCode, zeroAt, unusedOk, cutOk, eventOk, eventsOk, wellFormed, cutOf, offerOf, receiveOf, callOf, callAt};
+use sets::wide;
+use sets::wide32;
 use site::Setup;
 use steps::Call;
 use steps::Cut;
@@ -40,23 +42,11 @@ pub fn byte_at(bytes: &[u8], i: usize) -> u8
     bytes[i]
 }
 
-fn wide(x: u8) -> usize
-    ensures { λ r. ⌜ r ≡ x ⌝ }
-{
-    x as usize
-}
-
 // Two bytes as a number, the highest first.
 fn pair(x: u8, y: u8) -> u16
     ensures { λ r. ⌜ r ≡ pair x y ⌝ }
 {
     x as u16 * 256 + y as u16
-}
-
-fn wide32(x: u8) -> u32
-    ensures { λ r. ⌜ r ≡ x ⌝ }
-{
-    x as u32
 }
 
 // Four bytes as a number, the highest first.

@@ -1,5 +1,5 @@
 // DELIVER m received: at the first receipt it goes on to all but the receiver, unless that is m's owner, and then m is delivered.
-// Rests on arrays and delivery, on steps for the cut.
+// Rests on flat.
 ghost use Prim.Native.Nat.{ℕ, _<_};
 ghost use mathlib.Core.Path.{_≡_};
 ghost use mathlib.Core.List.{List};

@@ -12,9 +12,9 @@ use borrow.Author.Tests.{lt-ltb, le-ltb}
 use lib.Count.{trailingZeros, under}
 use lib.Pow.{shr-shr, shr-le, shr-lt, pow-mono}
 use Rattle.sets.specs.Masks.{hasBit}
-use Rattle.sets.specs.MaskLaws.{has-bit-half, has-bit-zero}
+use Rattle.sets.proofs.MaskLaws.{has-bit-half, has-bit-zero}
 use Rattle.sets.specs.Words.{word, member, members, membersBelow}
-use Rattle.sets.specs.WordLaws.{member-at}
+use Rattle.sets.proofs.WordLaws.{member-at}
 use Rattle.sets.specs.Sets.{capacity}
 use Rattle.arrays.specs.Layout.{haveOf, deliveredAt, recordAt}
 use Rattle.arrays.specs.Arrays.{hasIn, adding}

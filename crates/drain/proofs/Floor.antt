@@ -12,7 +12,7 @@ use lib.ListN.{getD}
 use lib.Bits.{bitAnd}
 use borrow.Author.Tests.{eq-eqb, ne-eqb, lt-ltb, le-ltb}
 use Rattle.sets.specs.declared.Set.{Set}
-use Rattle.sets.specs.Truth.{test}
+use Rattle.sets.proofs.Truth.{test}
 use Rattle.sets.specs.Sets.{has}
 use Rattle.posting.specs.declared.Table.{Table}
 use Rattle.masks.specs.SiteMasks.{withSite, withSiteIf}
@@ -26,9 +26,9 @@ use Rattle.site.specs.Sends.{FIRST, SECOND, THIRD, DELIVER}
 use Rattle.site.specs.Steps.{majority}
 use Rattle.site.specs.ByMask.{ENTRY, reached, late, noStepByMask, firstByMask, stepSecondByMask, secondByMask, finishSends, stepThirdByMask, talliedByMask, thirdByMask, deliverByMask}
 use Rattle.flight.specs.Flights.{pairs, isCell, cellAt, sendingTo, takingFrom}
-use Rattle.flight.specs.CellLaws.{cell-in, cell-out, cell-below}
-use Rattle.flight.specs.ArrayLaws.{sending-none}
-use Rattle.flight.specs.FloorLaws.{NoneBelow, sending-below, taking-below}
+use Rattle.flight.proofs.CellLaws.{cell-in, cell-out, cell-below}
+use Rattle.flight.proofs.ArrayLaws.{sending-none}
+use Rattle.flight.proofs.FloorLaws.{NoneBelow, sending-below, taking-below}
 use Rattle.steps.specs.ByMask.{receiptByMask}
 use Rattle.machine.proofs.Facts.{Placed}
 use Rattle.drain.specs.Firsts.{floorAfter}

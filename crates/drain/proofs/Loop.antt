@@ -7,14 +7,15 @@ use mathlib.Core.Bool.{Bool, true, false}
 use native.Mathlib.Omega.{arith}
 use lib.ListN.{take, drop}
 use lib.Pow.{pow-mono}
-use Rattle.sets.specs.Truth.{not-so}
+use Rattle.sets.proofs.Truth.{not-so}
 use Rattle.sets.specs.Sets.{capacity, membersOf}
 use Rattle.site.specs.Sites.{sites}
 use Rattle.site.specs.Steps.{ownerOf}
 use Rattle.flight.specs.declared.Found.{Found}
 use Rattle.flight.specs.declared.Found.the-variants.{Nothing, Message}
-use Rattle.flight.specs.Flights.{pairs, cells, cellAt, sendingMask, takingOut, lowestFrom, lowestIn, lowest}
-use Rattle.flight.specs.FloorLaws.{NoneBelow, floor-search, message-floor, nothing-floor}
+use Rattle.flight.specs.Flights.{pairs, cells, cellAt, takingOut, lowestFrom, lowestIn, lowest}
+use Rattle.flight.specs.ByMask.{sendingMask}
+use Rattle.flight.proofs.FloorLaws.{NoneBelow, floor-search, message-floor, nothing-floor}
 use Rattle.site.specs.declared.Setup.{Setup}
 use Rattle.arrays.specs.Arrays.{Arrays}
 use Rattle.machine.specs.declared.Board.{Board}
@@ -26,7 +27,8 @@ use Rattle.machine.specs.Boards.{siteAt, tallyAt, entryAt, boardFlight}
 use Rattle.machine.specs.Calls.{reading}
 use Rattle.machine.specs.Runs.{taking, isQuiet, upMask}
 use Rattle.machine.specs.ByMask.{placed}
-use Rattle.machine.specs.QuietParts.{upByte, up-byte}
+use Rattle.machine.specs.QuietParts.{upByte}
+use Rattle.machine.proofs.QuietPartLaws.{up-byte}
 use Rattle.machine.proofs.Facts.{Placed, message-placed}
 use Rattle.machine.proofs.Placed.{whole-is, receipt, receipt-fits, receipt-is, read-whole}
 use Rattle.invariants.proofs.Judged.{ReceiptTaken, ReadTaken, receipt-taken, order-taken, read-taken, nextLogged}

@@ -10,15 +10,15 @@ use native.Mathlib.Decide.{ℕ-discrete}
 use lib.Dec.{eqb, ltb}
 use lib.Pow.{pow-pos}
 use borrow.Author.Tests.{eq-eqb, ltb-true, lt-ltb}
-use Rattle.sets.specs.Truth.{test, never, not-so, and-left, and-right, or-left}
+use Rattle.sets.proofs.Truth.{test, never, not-so, and-left, and-right, or-left}
 use Rattle.sets.specs.Masks.{hasBit}
 use Rattle.sets.specs.Numbers.{listed}
-use Rattle.sets.specs.WordLaws.{listed-members}
+use Rattle.sets.proofs.WordLaws.{listed-members}
 use Rattle.sets.specs.Sets.{has, membersOf}
 use Rattle.flight.specs.declared.Found.{Found}
 use Rattle.flight.specs.declared.Found.the-variants.{Nothing, Message}
 use Rattle.flight.specs.Flights.{inFlight, lowest}
-use Rattle.flight.specs.LowestLaws.{IsLowest, lowest-found, lowest-nothing}
+use Rattle.flight.proofs.LowestLaws.{IsLowest, lowest-found, lowest-nothing}
 use Rattle.machine.specs.declared.Board.{Board}
 use Rattle.steps.specs.declared.Cut.{Cut}
 use Rattle.steps.specs.declared.Cut.the-variants.{Whole}

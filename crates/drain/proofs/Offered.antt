@@ -5,15 +5,15 @@ use mathlib.Core.Path.{_≡_, sym, ap, _∙_}
 use native.Mathlib.Omega.{arith}
 use lib.ListN.{getD, take, drop}
 use Rattle.sets.specs.Masks.{hasBit}
-use Rattle.sets.specs.Truth.{not-so}
+use Rattle.sets.proofs.Truth.{not-so}
 use Rattle.sets.specs.Sets.{capacity}
-use Rattle.posting.specs.ConflictLaws.{offered-below}
+use Rattle.posting.proofs.ConflictLaws.{offered-below}
 use Rattle.site.specs.Sites.{sites}
 use Rattle.site.specs.Sends.{forms}
 use Rattle.flight.specs.declared.Found.the-variants.{Message}
 use Rattle.flight.specs.Flights.{pairs, cells, cellAt, receiversIn, messageAt, lowestFrom}
-use Rattle.flight.specs.LowestLaws.{place-cell}
-use Rattle.flight.specs.FloorLaws.{pass-over}
+use Rattle.flight.proofs.LowestLaws.{place-cell}
+use Rattle.flight.proofs.FloorLaws.{pass-over}
 use Rattle.machine.specs.declared.Board.{Board}
 use Rattle.machine.proofs.SoundFacts.{CellSound, Sound, no-bits}
 

@@ -10,7 +10,7 @@ use lib.Dec.{eqb}
 use lib.ListN.{getD}
 use lib.Count.{trailingZeros, under, trailing-of-zero}
 use Rattle.sets.specs.Masks.{hasBit}
-use Rattle.sets.specs.MaskLaws.{has-bit-half}
+use Rattle.sets.proofs.MaskLaws.{has-bit-half}
 use Rattle.sets.specs.Sets.{words, capacity, has}
 use Rattle.arrays.specs.Arrays.{slotSet, hasIn}
 use Rattle.arrays.proofs.Slots.{has-slot}

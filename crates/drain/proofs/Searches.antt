@@ -12,7 +12,7 @@ use lib.Dec.{ltb}
 use lib.ListN.{getD}
 use borrow.Author.Tests.{ltb-true, ltb-false, lt-ltb, le-ltb}
 use Rattle.sets.specs.Masks.{hasBit}
-use Rattle.sets.specs.Truth.{test, never}
+use Rattle.sets.proofs.Truth.{test, never}
 use Rattle.arrays.specs.Layout.{loggedAt, placeAt}
 use Rattle.drain.specs.Firsts.{firstBelow, reads}
 

@@ -1,5 +1,5 @@
 // Drain: events, uncut, until the board is quiet or the limit is used up; on a board at work, and on a board by value.
-// Rests on machine, events, arrays, flight and site.
+// Rests on next, on whole_board and invariants.
 ghost use mathlib.Core.Path.{_≡_};
 ghost use mathlib.Core.Bool.{true, false};
 ghost use Rattle.arrays.specs.Arrays.{arrays};
@@ -28,10 +28,10 @@ use next::floor_after;
 use next::lowest_pooled;
 use next::next_reader;
 use sets::POSTINGS;
-use shown::quiet::up_mask;
 use site::SITES;
 use site::Setup;
 use steps::Cut;
+use whole_board::quiet::up_mask;
 
 pub mod next;
 

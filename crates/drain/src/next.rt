@@ -18,7 +18,7 @@ use sets::POSTINGS;
 use sets::WORDS;
 
 // The form DELIVER, the last.
-const DELIVER: usize = 3;
+const DELIVER: usize = site::DELIVER as usize;
 
 // The lowest bit of a word; 64 if it is 0.
 fn lowest_bit(word: u64) -> usize

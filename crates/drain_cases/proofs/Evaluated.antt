@@ -1,5 +1,5 @@
 -- The order and the endings of a drain: the definitions compute to what the table says.
--- Assumes nothing.
+-- Rests on Drains, on cases. Assumes nothing.
 use mathlib.Core.Path.{refl}
 use Rattle.cases.specs.Trials.{results, Hold}
 use Rattle.cases.specs.Boards.{m9End, busy, tradeSent}

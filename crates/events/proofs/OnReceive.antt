@@ -8,14 +8,14 @@ use mathlib.Core.List.{List}
 use lib.Dec.{ltb}
 use borrow.Author.Tests.{eq-eqb, ne-eqb, ltb-true}
 use Rattle.sets.specs.Masks.{hasBit}
-use Rattle.sets.specs.Truth.{and-left, and-right}
+use Rattle.sets.proofs.Truth.{and-left, and-right}
 use Rattle.sets.specs.Sets.{capacity}
 use Rattle.site.specs.declared.Setup.{Setup}
 use Rattle.site.specs.Sites.{sites}
 use Rattle.site.specs.Sends.{FIRST, SECOND, THIRD, forms}
 use Rattle.flight.specs.Flights.{isPair, isCell, receiversIn, messageIn}
 use Rattle.steps.specs.declared.Cut.{Cut}
-use Rattle.steps.specs.Causes.{firstCause, messageCauses}
+use Rattle.steps.specs.CauseLists.{firstCause, messageCauses}
 use Rattle.arrays.specs.Layout.{downAt}
 use Rattle.arrays.specs.Arrays.{Arrays, byte}
 use Rattle.flat.specs.Flat.{Flat, flat, flatFirst, flatSecond, flatThird, flatDeliver, flatReceive}

@@ -1,5 +1,5 @@
 // Every event of a board at work, in place over its lent arrays: the code of offer, receive, order, read and crash, whole and cut.
-// Rests on seconds and thirds for receipts, on arrays, index and delivery, on steps for refusals and cuts. The answer is 0, or the number of the refusal, and then nothing is changed.
+// Rests on receipts, on calls. The answer is 0, or the number of the refusal, and then nothing is changed.
 ghost use Prim.Native.Nat.{_≤_};
 ghost use mathlib.Core.Path.{_≡_};
 ghost use Rattle.site.specs.Sites.{sites};

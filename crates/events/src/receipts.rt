@@ -1,5 +1,5 @@
 // A message received: refused, or handed on to the step of its form.
-// Rests on arrays, seconds and thirds, on steps for refusals.
+// Rests on thirds, delivers, seconds and firsts.
 ghost use Prim.Native.Nat.{ℕ, _≤_};
 ghost use mathlib.Core.Path.{_≡_};
 ghost use mathlib.Core.List.{List};

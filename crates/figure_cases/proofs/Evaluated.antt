@@ -1,5 +1,5 @@
 -- Figures in a lent slice: the definitions compute to what the table says.
--- Assumes nothing.
+-- Rests on Figures, on cases. Assumes nothing.
 use mathlib.Core.Path.{refl}
 use Rattle.cases.specs.Trials.{results, Hold}
 use Rattle.cases.proofs.Computes.{computes}

@@ -1,5 +1,5 @@
 // FIRST m received: m joins seen; SECOND goes to all, GOOD if seen meets C(m) in m alone, else BAD.
-// Rests on arrays and index, on steps for the cut.
+// Rests on flat.
 ghost use Prim.Native.Nat.{ℕ, _<_};
 ghost use mathlib.Core.Path.{_≡_};
 ghost use mathlib.Core.List.{List};

@@ -21,7 +21,7 @@ use Rattle.steps.specs.declared.Cut.{Cut}
 use Rattle.steps.specs.declared.Cut.the-variants.{Whole, After}
 use Rattle.steps.specs.declared.Call.{Call}
 use Rattle.steps.specs.declared.Call.the-variants.{Offer, Receive, Order, Read, Crash}
-use Rattle.steps.specs.Causes.{firstCause, siteCauses, messageCauses, offerCauses, cutCauses}
+use Rattle.steps.specs.CauseLists.{firstCause, siteCauses, messageCauses, offerCauses, cutCauses}
 use Rattle.steps.specs.Cuts.{sitesTo}
 use Rattle.arrays.specs.Layout.{seenOf, heldOf, steppedOf, finishedOf, gotOf, poolSlot, unionOf, entryOf, countAt, loggedAt, placeAt, downAt, ownerAt, kindAt, fromAt, intoAt, talliedAt, hasAt, logAt, heardAt, goodAt}
 use Rattle.arrays.specs.Arrays.{Arrays, withSets, withCounts, withBytes, withMasks, withGood, withCarried, slotSet, storing, hasIn, adding, dropping, byte, marked}
@@ -192,8 +192,8 @@ pooledThird setup a m from to heard has union cut =
     (flat 0 (withSets d (entering (d .sets) m (sitesTo 1 cut) union)))
 
 -- not late
-unfoldable pub settledThird : Setup → Arrays → ℕ → ℕ → ℕ → ℕ → ℕ → Set → Cut → Flat
-settledThird setup a m from to heard has union cut =
+unfoldable pub concludedThird : Setup → Arrays → ℕ → ℕ → ℕ → ℕ → ℕ → Set → Cut → Flat
+concludedThird setup a m from to heard has union cut =
     cond (reached setup heard)
     (cond (majority setup (bitAnd has heard)) (sentThird setup a m from to heard has union cut)
     (pooledThird setup a m from to heard has union cut))
@@ -207,7 +207,7 @@ flatThird setup a m from to cut =
     let holders = withSiteIf (byte (a .bytes) (hasAt m)) from (has load m) in
     let union = join (slotSet (a .sets) (unionOf m)) load in
     cond (late setup known from (hasIn (a .sets) (finishedOf to) m)) (passedThird setup a m from to cut)
-    (settledThird setup a m from to heard holders union cut)
+    (concludedThird setup a m from to heard holders union cut)
 
 -- ---- DELIVER
 

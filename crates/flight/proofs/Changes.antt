@@ -1,5 +1,5 @@
 -- What the stores of the code make of the arrays: one place is set.
--- Rests on Flights, CellLaws and CarriedLaws; i is what `cell` or `pair` returned. Assumes nothing.
+-- Rests on Flights and CarriedLaws, on site. Assumes nothing.
 use Prim.Native.Nat.{ℕ, _*_, _^_, _<_, _≤_}
 use mathlib.Core.Path.{_≡_, sym}
 use mathlib.Core.Bool.{true, false}
@@ -12,8 +12,9 @@ use lib.Bits.{bitOr}
 use Rattle.sets.specs.declared.Set.{Set}
 use Rattle.sets.specs.Sets.{words, ofWords, emptySet}
 use Rattle.site.specs.Sends.{SECOND}
-use Rattle.flight.specs.Flights.{pairs, cells, pairAt, cellAt, writeAt, wordsFrom, setIn, less, sendingTo, takingFrom, saying, carrying, goodSent}
-use Rattle.flight.specs.CarriedLaws.{set-past}
+use Rattle.flight.specs.Flights.{pairs, cells, pairAt, cellAt, writeAt, wordsFrom, setIn, less, sendingTo, takingFrom, saying, carrying}
+use Rattle.flight.specs.ByMask.{goodSent}
+use Rattle.flight.proofs.CarriedLaws.{set-past}
 
 -- below the last place one place is set
 write-one : (n : ℕ) (l : List ℕ) (i v : ℕ) → i < n → set l i v ≡ writeAt n l i v

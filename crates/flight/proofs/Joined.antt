@@ -1,5 +1,5 @@
 -- Masks joined: the join is 0 just if each is.
--- Assumes nothing.
+-- Rests on nothing of the repository. Assumes nothing.
 use Prim.Native.Nat.{ℕ, zero, suc}
 use mathlib.Core.Path.{_≡_, sym, ap, _∙_}
 use mathlib.Core.Bool.{Bool, _&&_, and-assoc}

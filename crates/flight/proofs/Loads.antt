@@ -8,7 +8,7 @@ use native.Mathlib.Numerals.{add-one}
 use lib.ListN.{length, getD, set, take, drop, drop-of-length-le}
 use lib.Seq.{sets, take-suc, take-all, length-take-le, drop-cons, set-at}
 use Rattle.flight.specs.Flights.{wordsFrom}
-use Rattle.flight.specs.CarriedLaws.{length-words-from}
+use Rattle.flight.proofs.CarriedLaws.{length-words-from}
 
 -- ---- stores
 

@@ -10,12 +10,12 @@ use lib.Dec.{ltb}
 use lib.ListN.{getD}
 use borrow.Author.Tests.{lt-ltb, le-ltb}
 use Rattle.sets.specs.Masks.{hasBit}
-use Rattle.sets.specs.Truth.{test, not-so}
+use Rattle.sets.proofs.Truth.{test, not-so}
 use Rattle.sets.specs.Sets.{capacity}
 use Rattle.site.specs.Sites.{sites}
 use Rattle.site.specs.Sends.{forms}
 use Rattle.flight.specs.Flights.{pairs, cells, isPair, isCell, pairAt, cellAt, messageIn}
-use Rattle.flight.specs.CellLaws.{pair-range, cell-range, pair-in, pair-out, cell-in, cell-out, cell-below, pair-below}
+use Rattle.flight.proofs.CellLaws.{pair-range, cell-range, pair-in, pair-out, cell-in, cell-out, cell-below, pair-below}
 
 -- ---- pairs
 

@@ -1,16 +1,14 @@
 -- What is in flight: a set of (form, posting, from, to), a SECOND with its GOOD or BAD and a THIRD with its carried set.
 -- Rests on the declared Flight and Found, on site's sends and on sets. A definition on one array is what a function on it promises.
-use Prim.Native.Nat.{ℕ, zero, suc, _+_, _*_, _-_, _/_, _%_, _^_, _<_}
-use mathlib.Core.Path.{_≡_}
+use Prim.Native.Nat.{ℕ, zero, suc, _+_, _*_, _-_, _/_, _%_, _^_}
 use mathlib.Core.Bool.{Bool, true, false, cond, not, _&&_}
 use mathlib.Core.List.{List, [], _∷_}
 use lib.Dec.{eqb, ltb}
-use lib.ListN.{length, getD, set, take, replicate}
+use lib.ListN.{getD, set, take, replicate}
 use lib.Seq.{sets}
 use lib.Bits.{bitOr, bitAnd}
 use Rattle.sets.specs.declared.Set.{Set}
 use Rattle.sets.specs.Masks.{hasBit}
-use Rattle.sets.specs.Words.{Words}
 use Rattle.sets.specs.Sets.{words, capacity, ofWords, emptySet}
 use Rattle.site.specs.Sites.{sites}
 use Rattle.site.specs.Sends.{FIRST, SECOND, THIRD, DELIVER, forms, Send, first, second, third, deliver, entry}
@@ -123,22 +121,6 @@ unfoldable pub sendingAll : Flight → ℕ → List Send → Flight
 sendingAll flight from [] = flight
 sendingAll flight from (send ∷ l) = sendingAll (sending flight from send) from l
 
--- ---- a mask of receivers at once
-
--- the GOOD or BAD of a SECOND and the set of a THIRD, to every site of a mask; to no site, nothing is sent
-abbrev pub goodSent : List ℕ → ℕ → ℕ → ℕ → ℕ → Bool → List ℕ
-goodSent good form m from receivers so = cond (eqb form SECOND) (saying good m from receivers so) good
-
-abbrev pub setSent : List ℕ → ℕ → ℕ → ℕ → ℕ → Set → List ℕ
-setSent carried form m from receivers load = cond (eqb form THIRD && not (eqb receivers 0)) (carrying carried m from load) carried
-
--- The same message to every site of a mask; BroadcastLaws says of which single sends it is made.
-unfoldable pub sendingMask : Flight → ℕ → ℕ → ℕ → ℕ → Bool → Set → Flight
-sendingMask flight from form m receivers so load =
-    flightOf (sendingTo (flight .masks) form m from receivers)
-    (goodSent (flight .good) form m from receivers so)
-    (setSent (flight .carried) form m from receivers load)
-
 -- ---- taking out
 
 -- the GOOD of a SECOND to a site, and the set of a THIRD, leave with their message
@@ -191,15 +173,3 @@ nothingComes (mask ∷ l) up = eqb (bitAnd mask up) 0 && nothingComes l up
 -- nothing in flight
 abbrev pub emptyFlight : Flight
 emptyFlight = flightOf (replicate cells 0) (replicate pairs 0) (replicate (words * pairs) 0)
-
--- ---- what holds of every value of the type
-
--- n masks of eight sites
-pub record Bytes (n : ℕ) (l : List ℕ) : Type 0 where
-  pub long : length l ≡ n
-  pub small : (i : ℕ) → i < n → getD l i 0 < 2 ^ 8
-
-pub record Shape (flight : Flight) : Type 0 where
-  pub masks : Bytes cells (flight .masks)
-  pub good : Bytes pairs (flight .good)
-  pub carried : Words (words * pairs) (flight .carried)

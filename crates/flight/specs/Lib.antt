@@ -1,12 +1,5 @@
--- What is in flight: the definitions are Flights; the files named Laws hold laws.
+-- What is in flight: Flights. Shapes: what holds of every flight. ByMask: a message to a mask of sites.
 -- Rests on site, posting and sets.
 pub mod Flights
-pub mod CellLaws
-pub mod ArrayLaws
-pub mod CarriedLaws
-pub mod FlightLaws
-pub mod SendLaws
-pub mod BroadcastLaws
-pub mod SearchLaws
-pub mod LowestLaws
-pub mod FloorLaws
+pub mod Shapes
+pub mod ByMask

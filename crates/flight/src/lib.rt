@@ -12,7 +12,7 @@ use site::SITES;
 // Document 01's forms: FIRST, SECOND, THIRD, DELIVER.
 pub const FORMS: usize = 4;
 
-pub const THIRD: usize = 2;
+pub const THIRD: usize = site::THIRD as usize;
 
 // Places in the arrays: by posting and sender; by form, posting and sender; by posting, sender and word.
 pub const PAIRS: usize = POSTINGS * SITES;

@@ -20,7 +20,8 @@ use Rattle.site.specs.declared.Site.{Site}
 use Rattle.site.specs.declared.Tally.{Tally}
 use Rattle.site.specs.Sites.{sites, noSet, noSite, noTally}
 use Rattle.flight.specs.declared.Flight.{Flight}
-use Rattle.flight.specs.Flights.{cells, pairs, Shape as FlightShape}
+use Rattle.flight.specs.Flights.{cells, pairs}
+use Rattle.flight.specs.Shapes.{Shape as FlightShape}
 use Rattle.machine.specs.declared.Board.{Board}
 use Rattle.image.specs.Layout.{rowLong, siteLong, tallyLong, loads, downAt, countAt, rowsAt, sitesAt, talliesAt, masksAt, goodAt, carriedAt, poolAt, entriesAt, logAt}
 use Rattle.image.specs.Image.{each, setupNumbers, setNumbers, rowNumbers, recordNumbers, siteNumbers, tallyNumbers, flightNumbers, imageOf, number, numbers, setupFrom, setFrom, rowFrom, recordFrom, siteFrom, tallyFrom, tableFrom, flightFrom, boardFrom}

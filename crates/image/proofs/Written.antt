@@ -15,7 +15,8 @@ use Rattle.site.specs.declared.Site.{Site}
 use Rattle.site.specs.declared.Tally.{Tally}
 use Rattle.site.specs.Sites.{sites, noSet, noSite, noTally}
 use Rattle.flight.specs.declared.Flight.{Flight}
-use Rattle.flight.specs.Flights.{cells, pairs, Shape as FlightShape}
+use Rattle.flight.specs.Flights.{cells, pairs}
+use Rattle.flight.specs.Shapes.{Shape as FlightShape}
 use Rattle.machine.specs.declared.Board.{Board}
 use Rattle.machine.proofs.Shapes.{SiteShape, BoardShape}
 use Rattle.image.specs.Layout.{rowLong, siteLong, tallyLong, loads, countAt, rowsAt, sitesAt, talliesAt, masksAt, goodAt, carriedAt, poolAt, entriesAt, logAt, imageLong}

@@ -1,5 +1,5 @@
 -- How many numbers each part of a board has, and where it stands in the row: in the order of Board's fields.
--- Rests on sets, site and flight for the numbers of words, postings, sites and cells. The code's constants of the same names are these.
+-- Rests on flight. The code's constants of the same names are these.
 use Prim.Native.Nat.{ℕ, _+_, _*_}
 use Rattle.sets.specs.Sets.{words, capacity}
 use Rattle.site.specs.Sites.{sites}

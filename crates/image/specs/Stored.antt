@@ -1,5 +1,5 @@
 -- What a loop of src/writing makes of the row: the numbers of each element of an array, stored at its place.
--- Proof machinery: proofs/Rows says that the numbers of the whole array stand there then. Rests on machine's upTo.
+-- Proof machinery: proofs/Rows says that the numbers of the whole array stand there then. Rests on layout.
 use Prim.Native.Nat.{ℕ, _+_, _*_}
 use mathlib.Core.List.{List}
 use lib.ListN.{getD}

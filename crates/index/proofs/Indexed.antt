@@ -13,14 +13,14 @@ use lib.ListN.{length}
 use lib.Seq.{getD-set-same, getD-set-other}
 use borrow.Author.Tests.{eq-eqb, ne-eqb, lt-ltb, le-ltb, le-leb, lt-leb, eqb-true, eqb-false}
 use Rattle.sets.specs.declared.Set.{Set}
-use Rattle.sets.specs.Truth.{test}
-use Rattle.sets.specs.WordLaws.{member-empty, member-union, member-insert, same-members, union-shape, insert-shape, empty-shape}
+use Rattle.sets.proofs.Truth.{test}
+use Rattle.sets.proofs.WordLaws.{member-empty, member-union, member-insert, same-members, union-shape, insert-shape, empty-shape}
 use Rattle.sets.specs.Sets.{words, capacity, ofWords, emptySet, has, with, Shape}
 use Rattle.posting.specs.declared.Posting.{Posting}
 use Rattle.posting.specs.declared.Table.{Table}
 use Rattle.posting.specs.Kinds.{matrixEntry}
 use Rattle.posting.specs.Conflicts.{noPosting, row, offeredBy, offered, tableWith, touches, conflicting, conflict, conflictSet}
-use Rattle.posting.specs.ConflictLaws.{touches-account, shares-fields, has-conflict-set, conflict-set-shape}
+use Rattle.posting.proofs.ConflictLaws.{touches-account, shares-fields, has-conflict-set, conflict-set-shape}
 use Rattle.arrays.specs.Layout.{shownSlots, kindSlots, setsLong, kindOf, kindAt, fromAt, intoAt}
 use Rattle.arrays.specs.Arrays.{slotSet, adding, byte}
 use Rattle.arrays.proofs.Slots.{long-added, slot-added-other, has-added, shape-added}

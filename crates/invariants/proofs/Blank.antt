@@ -1,5 +1,5 @@
 -- Cells that hold nothing live are as on the blank board: rows of sites from n on, table rows past the count, places of records and of
--- the log past their length, a GOOD or a carried set with no such message in flight. Rests on flight's laws. Assumes nothing.
+-- the log past their length, a GOOD or a carried set with no such message in flight. Rests on machine. Assumes nothing.
 use Prim.Native.Nat.{ℕ, zero, suc, _+_, _<_, _≤_}
 use mathlib.Core.Path.{_≡_, refl, sym, ap, _∙_}
 use mathlib.Core.Logic.{_⊎_, inl, inr, _≢_}
@@ -13,7 +13,7 @@ use lib.ListN.{getD, set}
 use lib.Seq.{getD-set-other}
 use borrow.Author.Tests.{eq-eqb, ne-eqb, eqb-true}
 use Rattle.sets.specs.declared.Set.{Set}
-use Rattle.sets.specs.Truth.{test, never, not-so, and-left, and-right, and-intro, or-left, or-right}
+use Rattle.sets.proofs.Truth.{test, never, not-so, and-left, and-right, and-intro, or-left, or-right}
 use Rattle.sets.specs.Masks.{hasBit}
 use Rattle.sets.specs.Sets.{capacity, emptySet, has}
 use Rattle.posting.specs.declared.Record.{Record}
@@ -27,9 +27,10 @@ use Rattle.site.specs.Sites.{sites, blankSite, heardFor, plus}
 use Rattle.site.specs.Sends.{FIRST, SECOND, THIRD, Send, first, second, third, deliver, entry, Step}
 use Rattle.site.specs.Steps.{noStep, tallied, onOffer, onFirst, stepSecond, onSecond, stepThird, onThird, onDeliver, onEntry, delivering, deliveringAll, quorum}
 use Rattle.flight.specs.declared.Flight.{Flight}
-use Rattle.flight.specs.Flights.{Shape, inFlight, goodTo, carriedBy, sending, takingOut}
-use Rattle.flight.specs.CellLaws.{sameCell}
-use Rattle.flight.specs.FlightLaws.{Fits, sends, isThird, verdictOf, loadOf, sending-in-flight, sending-good, sending-carried, taking-in-flight, taking-good, taking-carried}
+use Rattle.flight.specs.Flights.{inFlight, goodTo, carriedBy, sending, takingOut}
+use Rattle.flight.specs.Shapes.{Shape}
+use Rattle.flight.proofs.CellLaws.{sameCell}
+use Rattle.flight.proofs.FlightLaws.{Fits, sends, isThird, verdictOf, loadOf, sending-in-flight, sending-good, sending-carried, taking-in-flight, taking-good, taking-carried}
 use Rattle.machine.specs.declared.Board.{Board}
 use Rattle.machine.specs.Boards.{siteAt, tallyAt}
 use Rattle.machine.specs.Calls.{receiptOf}

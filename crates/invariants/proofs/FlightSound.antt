@@ -14,23 +14,24 @@ use lib.Bits.{bitOr, bitAnd, or-lt}
 use lib.Pow.{pow-lt, pow-pos}
 use borrow.Author.Tests.{eqb-true, eq-eqb, ltb-true, lt-ltb}
 use Rattle.sets.specs.declared.Set.{Set}
-use Rattle.sets.specs.Truth.{test, never, not-so, and-left, and-right, and-intro, or-cases}
+use Rattle.sets.proofs.Truth.{test, never, not-so, and-left, and-right, and-intro, or-cases}
 use Rattle.sets.specs.Masks.{hasBit}
-use Rattle.sets.specs.MaskLaws.{has-bit-above}
-use Rattle.sets.specs.WordLaws.{empty-shape, member-empty}
+use Rattle.sets.proofs.MaskLaws.{has-bit-above}
+use Rattle.sets.proofs.WordLaws.{empty-shape, member-empty}
 use Rattle.sets.specs.Sets.{words, capacity, has, emptySet}
 use Rattle.posting.specs.declared.Table.{Table}
 use Rattle.posting.specs.Conflicts.{offered}
-use Rattle.posting.specs.ConflictLaws.{offered-below}
+use Rattle.posting.proofs.ConflictLaws.{offered-below}
 use Rattle.site.specs.declared.Site.{Site}
 use Rattle.site.specs.Sites.{sites}
 use Rattle.site.specs.Sends.{FIRST, SECOND, THIRD, DELIVER, forms, Send, first, second, third, deliver, entry}
 use Rattle.site.specs.Steps.{ownerOf}
 use Rattle.flight.specs.declared.Flight.{Flight}
-use Rattle.flight.specs.ArrayLaws.{write-keeps}
-use Rattle.flight.specs.Flights.{Shape, receiversIn, messageIn, isCell, inFlight, cellAt, carriedBy, less, sendingTo, takingFrom, sending, sendingAll, takingOut, cells, writeAt}
-use Rattle.flight.specs.CellLaws.{cell-range, range-cell, sameCell}
-use Rattle.flight.specs.FlightLaws.{Fits, sends, isThird, loadOf, isMessage, sending-shape, sending-in-flight, sending-carried, taking-shape, taking-in-flight, taking-carried}
+use Rattle.flight.proofs.ArrayLaws.{write-keeps}
+use Rattle.flight.specs.Flights.{receiversIn, messageIn, isCell, inFlight, cellAt, carriedBy, less, sendingTo, takingFrom, sending, sendingAll, takingOut, cells, writeAt}
+use Rattle.flight.specs.Shapes.{Shape}
+use Rattle.flight.proofs.CellLaws.{cell-range, range-cell, sameCell}
+use Rattle.flight.proofs.FlightLaws.{Fits, sends, isThird, loadOf, isMessage, sending-shape, sending-in-flight, sending-carried, taking-shape, taking-in-flight, taking-carried}
 use Rattle.machine.specs.declared.Board.{Board}
 use Rattle.machine.proofs.SoundFacts.{Offers, CellSound}
 use Rattle.invariants.proofs.StepSound.{SendSound, AllSends}

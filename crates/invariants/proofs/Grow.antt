@@ -1,5 +1,5 @@
 -- A table with a posting more: what was offered is offered still, in the same row, and what was sound is sound.
--- Rests on Sound. Assumes nothing.
+-- Rests on machine. Assumes nothing.
 use Prim.Native.Nat.{ℕ, suc, _+_, _<_, _≤_}
 use mathlib.Core.Path.{_≡_, refl, sym, ap, _∙_}
 use mathlib.Core.Bool.{true}
@@ -13,7 +13,7 @@ use Rattle.posting.specs.declared.Posting.{Posting}
 use Rattle.posting.specs.declared.Table.{Table}
 use Rattle.posting.specs.declared.Record.{Record}
 use Rattle.posting.specs.Conflicts.{noPosting, row, offered, tableWith}
-use Rattle.posting.specs.ConflictLaws.{offered-below, below-offered}
+use Rattle.posting.proofs.ConflictLaws.{offered-below, below-offered}
 use Rattle.site.specs.declared.Site.{Site}
 use Rattle.site.specs.declared.Tally.{Tally}
 use Rattle.machine.proofs.SoundFacts.{Offers, MaskSound, RecordSound, SiteSound, TallySound}

@@ -13,16 +13,16 @@ use lib.Count.{ones}
 use lib.ListN.{length, getD, length-append, List·getD-append}
 use lib.Seq.{getD-append-seam}
 use borrow.Author.Tests.{eq-eqb, ne-eqb}
-use Rattle.sets.specs.Truth.{test, not-so}
+use Rattle.sets.proofs.Truth.{test, not-so}
 use Rattle.sets.specs.Masks.{hasBit}
-use Rattle.sets.specs.MaskLaws.{has-bit-set}
+use Rattle.sets.proofs.MaskLaws.{has-bit-set}
 use Rattle.sets.specs.Sets.{has}
 use Rattle.posting.specs.declared.Posting.{Posting}
 use Rattle.posting.specs.declared.Table.{Table}
 use Rattle.posting.specs.Conflicts.{noPosting, row, tableWith}
-use Rattle.posting.specs.ConflictLaws.{offered-below, below-offered}
+use Rattle.posting.proofs.ConflictLaws.{offered-below, below-offered}
 use Rattle.posting.specs.Records.{numbersOf, contains}
-use Rattle.posting.specs.RecordLaws.{numbers-append}
+use Rattle.posting.proofs.RecordLaws.{numbers-append}
 use Rattle.sets.specs.declared.Set.{Set}
 use Rattle.site.specs.declared.Setup.{Setup}
 use Rattle.site.specs.declared.Tally.{Tally}

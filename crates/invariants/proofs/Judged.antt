@@ -10,7 +10,7 @@ use lib.Dec.{eqb, ltb, leb}
 use lib.ListN.{length}
 use lib.Count.{ones}
 use borrow.Author.Tests.{ltb-false, leb-false}
-use Rattle.sets.specs.Truth.{test, never, not-so, and-intro, or-neither}
+use Rattle.sets.proofs.Truth.{test, never, not-so, and-intro, or-neither}
 use Rattle.sets.specs.Sets.{capacity, has, without}
 use Rattle.posting.specs.declared.Posting.{Posting}
 use Rattle.posting.specs.Kinds.{fieldsOk}

@@ -1,5 +1,5 @@
 -- Every accepted call keeps a board sound and in shape, so every board reached from an accepted start is sound and in shape.
--- Rests on StepSound, FlightSound, PoolSound, Grow, Judged and CarriedOut. Assumes nothing.
+-- Rests on StepSound, Grow, Room, PoolSound, FlightSound, Blank and CarriedOut, on machine. Assumes nothing.
 use Prim.Native.Nat.{ℕ, zero, suc, _+_, _*_, _/_, _%_, _^_, _<_, _≤_}
 use mathlib.Core.Path.{_≡_, refl, sym, ap, _∙_, subst}
 use mathlib.Core.Logic.{_⊎_, inl, inr, _≢_}
@@ -13,19 +13,19 @@ use lib.Bits.{or-lt}
 use lib.Pow.{pow-lt, pow-pos}
 use borrow.Author.Tests.{eqb-true, leb-true, ltb-true, eq-eqb, ne-eqb}
 use Rattle.sets.specs.declared.Set.{Set}
-use Rattle.sets.specs.Truth.{test, never, not-so, and-left, and-right, or-cases}
+use Rattle.sets.proofs.Truth.{test, never, not-so, and-left, and-right, or-cases}
 use Rattle.sets.specs.Masks.{hasBit}
 use Rattle.sets.specs.Numbers.{listed}
-use Rattle.sets.specs.NumberLaws.{listed-last}
+use Rattle.sets.proofs.NumberLaws.{listed-last}
 use Rattle.sets.specs.Sets.{capacity, has, without, Shape}
 use Rattle.posting.specs.declared.Posting.{Posting}
 use Rattle.posting.specs.declared.Table.{Table}
 use Rattle.posting.specs.declared.Record.{Record}
 use Rattle.posting.specs.Kinds.{fieldsOk}
 use Rattle.posting.specs.Conflicts.{row, offered, tableWith}
-use Rattle.posting.specs.ConflictLaws.{offered-below}
+use Rattle.posting.proofs.ConflictLaws.{offered-below}
 use Rattle.posting.specs.Records.{numbersOf, contains, append}
-use Rattle.posting.specs.RecordLaws.{Places, append-places, numbers-append}
+use Rattle.posting.proofs.RecordLaws.{Places, append-places, numbers-append}
 use Rattle.site.specs.declared.Setup.{Setup}
 use Rattle.site.specs.declared.Site.{Site}
 use Rattle.site.specs.declared.Tally.{Tally}
@@ -33,9 +33,10 @@ use Rattle.site.specs.Sites.{sites, noSite, noTally, noSet, plus}
 use Rattle.site.specs.Sends.{forms, Send, Step}
 use Rattle.site.specs.Steps.{ownerOf, deliveredSite}
 use Rattle.flight.specs.declared.Flight.{Flight}
-use Rattle.flight.specs.Flights.{Shape as FlightShape, receiversIn, cellAt, sending, sendingAll}
-use Rattle.flight.specs.FlightLaws.{sending-shape}
-use Rattle.flight.specs.CellLaws.{cell-in}
+use Rattle.flight.specs.Flights.{receiversIn, cellAt, sending, sendingAll}
+use Rattle.flight.specs.Shapes.{Shape as FlightShape}
+use Rattle.flight.proofs.FlightLaws.{sending-shape}
+use Rattle.flight.proofs.CellLaws.{cell-in}
 use Rattle.machine.specs.declared.Board.{Board}
 use Rattle.steps.specs.declared.Cut.{Cut}
 use Rattle.steps.specs.declared.Cut.the-variants.{Whole, After}

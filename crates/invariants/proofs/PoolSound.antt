@@ -12,13 +12,13 @@ use lib.ListN.{length, getD, set, length-set}
 use lib.Seq.{getD-set-same, getD-set-other}
 use borrow.Author.Tests.{eqb-true}
 use Rattle.sets.specs.declared.Set.{Set}
-use Rattle.sets.specs.Truth.{never, or-cases}
+use Rattle.sets.proofs.Truth.{never, or-cases}
 use Rattle.sets.specs.Words.{member}
-use Rattle.sets.specs.WordLaws.{member-insert, insert-shape}
+use Rattle.sets.proofs.WordLaws.{member-insert, insert-shape}
 use Rattle.sets.specs.Sets.{capacity, has, with, Shape}
 use Rattle.posting.specs.declared.Table.{Table}
 use Rattle.posting.specs.Conflicts.{offered}
-use Rattle.posting.specs.ConflictLaws.{offered-below}
+use Rattle.posting.proofs.ConflictLaws.{offered-below}
 use Rattle.site.specs.declared.Site.{Site}
 use Rattle.site.specs.Sites.{noSet}
 use Rattle.site.specs.Sends.{Send, first, second, third, deliver, entry}

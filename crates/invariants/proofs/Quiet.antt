@@ -13,17 +13,17 @@ use lib.ListN.{length, getD}
 use lib.Bits.{bitAnd, and-lt}
 use lib.Pow.{ones-sub-lt}
 use borrow.Author.Tests.{eqb-true, eq-eqb, lt-leb, le-ltb, leb-true, le-leb}
-use Rattle.sets.specs.Truth.{test, never, not-so, and-left, and-right, and-intro, or-cases, or-left, or-right, not-flips}
+use Rattle.sets.proofs.Truth.{test, never, not-so, and-left, and-right, and-intro, or-cases, or-left, or-right, not-flips}
 use Rattle.sets.specs.Below.{allBelow}
-use Rattle.sets.specs.BelowLaws.{all-at, all-from}
+use Rattle.sets.proofs.BelowLaws.{all-at, all-from}
 use Rattle.sets.specs.Masks.{hasBit}
-use Rattle.sets.specs.MaskLaws.{has-bit-and, has-bit-not, has-bit-zero, has-bit-above, bits-ext}
-use Rattle.sets.specs.WordLaws.{empty-member, member-none}
+use Rattle.sets.proofs.MaskLaws.{has-bit-and, has-bit-not, has-bit-zero, has-bit-above, bits-ext}
+use Rattle.sets.proofs.WordLaws.{empty-member, member-none}
 use Rattle.sets.specs.Sets.{capacity, has, isEmptySet}
 use Rattle.site.specs.Sites.{sites}
 use Rattle.site.specs.Sends.{forms}
 use Rattle.flight.specs.Flights.{receiversIn, inFlight, nothingComes, cellAt}
-use Rattle.flight.specs.CellLaws.{cell-in, cell-range, range-cell}
+use Rattle.flight.proofs.CellLaws.{cell-in, cell-range, range-cell}
 use Rattle.machine.specs.declared.Board.{Board}
 use Rattle.steps.specs.declared.Cut.{Cut}
 use Rattle.steps.specs.declared.Cut.the-variants.{Whole, After}

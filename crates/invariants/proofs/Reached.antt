@@ -14,29 +14,29 @@ use lib.Bits.{or-lt}
 use lib.Pow.{pow-lt, pow-pos}
 use borrow.Author.Tests.{eqb-true, eq-eqb, ne-eqb, eqb-false}
 use Rattle.sets.specs.declared.Set.{Set}
-use Rattle.sets.specs.Truth.{test, never, not-so, and-left, and-right, or-cases, or-left, or-right, not-flips}
+use Rattle.sets.proofs.Truth.{test, never, not-so, and-left, and-right, or-cases, or-left, or-right, not-flips}
 use Rattle.sets.specs.Masks.{hasBit}
 use Rattle.sets.specs.Numbers.{listed}
-use Rattle.sets.specs.NumberLaws.{listed-last}
+use Rattle.sets.proofs.NumberLaws.{listed-last}
 use Rattle.sets.specs.Words.{member}
-use Rattle.sets.specs.WordLaws.{empty-shape, member-empty, member-remove, remove-shape}
+use Rattle.sets.proofs.WordLaws.{empty-shape, member-empty, member-remove, remove-shape}
 use Rattle.sets.specs.Sets.{capacity, words, has, without, emptySet, Shape}
 use Rattle.posting.specs.declared.Posting.{Posting}
 use Rattle.posting.specs.declared.Table.{Table}
 use Rattle.posting.specs.Kinds.{fieldsOk}
 use Rattle.posting.specs.Conflicts.{noPosting, row, offered, tableWith}
-use Rattle.posting.specs.ConflictLaws.{offered-below, below-offered}
+use Rattle.posting.proofs.ConflictLaws.{offered-below, below-offered}
 use Rattle.posting.specs.Records.{numbersOf, contains, append}
-use Rattle.posting.specs.RecordLaws.{Places, append-places, numbers-append, append-room, empty-places}
+use Rattle.posting.proofs.RecordLaws.{Places, append-places, numbers-append, append-room, empty-places}
 use Rattle.site.specs.declared.Site.{Site}
 use Rattle.site.specs.declared.Tally.{Tally}
 use Rattle.site.specs.Sites.{sites, plus}
 use Rattle.site.specs.Sends.{FIRST, SECOND, THIRD, forms, Step}
 use Rattle.site.specs.Steps.{ownerOf, onOffer, onFirst, onSecond, onThird, onDeliver, onEntry}
 use Rattle.flight.specs.Flights.{inFlight, isCell, messageIn, carriedBy, goodTo, takingOut}
-use Rattle.flight.specs.CellLaws.{cell-range}
-use Rattle.flight.specs.CarriedLaws.{set-shape-in}
-use Rattle.flight.specs.FlightLaws.{taking-shape, empty-flight-shape, empty-in-flight}
+use Rattle.flight.proofs.CellLaws.{cell-range}
+use Rattle.flight.proofs.CarriedLaws.{set-shape-in}
+use Rattle.flight.proofs.FlightLaws.{taking-shape, empty-flight-shape, empty-in-flight}
 use Rattle.machine.specs.declared.Board.{Board}
 use Rattle.steps.specs.declared.Cut.{Cut}
 use Rattle.steps.specs.declared.Call.{Call}

@@ -1,5 +1,5 @@
 -- A sound record that lacks an offered posting has room for it: numbers below the capacity, none twice, are at most that many.
--- Rests on Sound. Assumes nothing.
+-- Rests on machine. Assumes nothing.
 use Prim.Native.Nat.{ℕ, zero, suc, _+_, _<_, _≤_}
 use mathlib.Core.Path.{_≡_, refl, sym, ap, _∙_}
 use mathlib.Core.Logic.{_⊎_, inl, inr}
@@ -11,16 +11,16 @@ use lib.Dec.{eqb, ltb}
 use lib.ListN.{length, getD, take, length-append}
 use lib.Seq.{getD-take}
 use borrow.Author.Tests.{eqb-true, eq-eqb, ne-eqb}
-use Rattle.sets.specs.Truth.{test, never, not-so, and-left, and-right, and-intro, or-cases, or-left, or-right, or-neither, not-flips}
+use Rattle.sets.proofs.Truth.{test, never, not-so, and-left, and-right, and-intro, or-cases, or-left, or-right, or-neither, not-flips}
 use Rattle.sets.specs.Numbers.{listed, distinct}
-use Rattle.sets.specs.NumberLaws.{distinct-last, listed-last}
+use Rattle.sets.proofs.NumberLaws.{distinct-last, listed-last}
 use Rattle.sets.specs.Sets.{capacity}
 use Rattle.posting.specs.declared.Table.{Table}
 use Rattle.posting.specs.declared.Record.{Record}
 use Rattle.posting.specs.Conflicts.{offered}
-use Rattle.posting.specs.ConflictLaws.{offered-below}
+use Rattle.posting.proofs.ConflictLaws.{offered-below}
 use Rattle.posting.specs.Records.{numbersOf, contains}
-use Rattle.posting.specs.RecordLaws.{Places, length-numbers}
+use Rattle.posting.proofs.RecordLaws.{Places, length-numbers}
 use Rattle.machine.proofs.SoundFacts.{RecordSound}
 
 -- the list without x

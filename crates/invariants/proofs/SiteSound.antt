@@ -1,5 +1,5 @@
 -- A site with some of its parts changed stays sound and in shape; a record stays so when a posting is delivered.
--- Rests on Sound. Assumes nothing.
+-- Rests on machine. Assumes nothing.
 use Prim.Native.Nat.{ℕ, zero, suc, _+_, _*_, _^_, _<_, _≤_}
 use mathlib.Core.Path.{_≡_, refl, sym, ap, _∙_}
 use mathlib.Core.Logic.{_⊎_, inl, inr}
@@ -14,20 +14,20 @@ use lib.Bits.{bitOr, or-lt}
 use lib.Pow.{pow-lt}
 use borrow.Author.Tests.{eqb-true, eq-eqb}
 use Rattle.sets.specs.declared.Set.{Set}
-use Rattle.sets.specs.Truth.{test, never, not-so, and-left, and-right, or-cases}
+use Rattle.sets.proofs.Truth.{test, never, not-so, and-left, and-right, or-cases}
 use Rattle.sets.specs.Masks.{hasBit}
-use Rattle.sets.specs.MaskLaws.{has-bit-set}
+use Rattle.sets.proofs.MaskLaws.{has-bit-set}
 use Rattle.sets.specs.Numbers.{listed, distinct}
-use Rattle.sets.specs.NumberLaws.{distinct-last}
+use Rattle.sets.proofs.NumberLaws.{distinct-last}
 use Rattle.sets.specs.Words.{member, insert, insertIf, union, intersect}
-use Rattle.sets.specs.WordLaws.{member-insert, member-insert-if, member-union, member-intersect, insert-shape, union-shape, intersect-shape, empty-shape}
+use Rattle.sets.proofs.WordLaws.{member-insert, member-insert-if, member-union, member-intersect, insert-shape, union-shape, intersect-shape, empty-shape}
 use Rattle.sets.specs.Sets.{words, capacity, has, with, withIf, join, meet, emptySet, Shape}
 use Rattle.posting.specs.declared.Table.{Table}
 use Rattle.posting.specs.declared.Record.{Record}
 use Rattle.posting.specs.Conflicts.{offered}
-use Rattle.posting.specs.ConflictLaws.{offered-below}
+use Rattle.posting.proofs.ConflictLaws.{offered-below}
 use Rattle.posting.specs.Records.{numbersOf, contains, append}
-use Rattle.posting.specs.RecordLaws.{Places, append-full, append-room, append-places, numbers-append}
+use Rattle.posting.proofs.RecordLaws.{Places, append-full, append-room, append-places, numbers-append}
 use Rattle.site.specs.declared.Site.{Site}
 use Rattle.site.specs.Sites.{heardFor, goodFor, plus, plusIf, siteSeen, siteHeard, siteStepped, siteFinished, siteGot, sitePlace, siteDelivered}
 use Rattle.site.specs.Steps.{delivering, deliveringAll}

@@ -9,25 +9,25 @@ use native.Mathlib.Omega.{arith}
 use lib.Dec.{eqb}
 use lib.ListN.{length, getD, replicate, length-replicate, getD-replicate}
 use lib.Pow.{pow-pos}
-use Rattle.sets.specs.Truth.{test, never, not-so}
+use Rattle.sets.proofs.Truth.{test, never, not-so}
 use Rattle.sets.specs.Masks.{hasBit}
-use Rattle.sets.specs.MaskLaws.{has-bit-zero}
+use Rattle.sets.proofs.MaskLaws.{has-bit-zero}
 use Rattle.sets.specs.Numbers.{listed, distinct}
-use Rattle.sets.specs.WordLaws.{empty-shape, member-empty}
+use Rattle.sets.proofs.WordLaws.{empty-shape, member-empty}
 use Rattle.sets.specs.Sets.{capacity, words, has, emptySet, Shape}
 use Rattle.posting.specs.declared.Table.{Table}
 use Rattle.posting.specs.Kinds.{symmetric, hasFixedPairs}
 use Rattle.posting.specs.Conflicts.{noPosting, row, offered, emptyTable}
-use Rattle.posting.specs.ConflictLaws.{offered-below}
+use Rattle.posting.proofs.ConflictLaws.{offered-below}
 use Rattle.posting.specs.Records.{numbersOf}
-use Rattle.posting.specs.RecordLaws.{empty-places}
+use Rattle.posting.proofs.RecordLaws.{empty-places}
 use Rattle.site.specs.declared.Setup.{Setup}
 use Rattle.site.specs.declared.Site.{Site}
 use Rattle.site.specs.declared.Tally.{Tally}
 use Rattle.site.specs.Sites.{sites, blankSite, blankTally, noSite, noTally, noSet}
 use Rattle.flight.specs.Flights.{emptyFlight}
-use Rattle.flight.specs.FlightLaws.{empty-flight-shape, empty-in-flight, empty-good, empty-carried}
-use Rattle.flight.specs.ArrayLaws.{zero-at}
+use Rattle.flight.proofs.FlightLaws.{empty-flight-shape, empty-in-flight, empty-good, empty-carried}
+use Rattle.flight.proofs.ArrayLaws.{zero-at}
 use Rattle.machine.specs.declared.Board.{Board}
 use Rattle.steps.specs.declared.Call.{Call}
 use Rattle.machine.specs.declared.Outcome.{Outcome}

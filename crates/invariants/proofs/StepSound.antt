@@ -13,15 +13,15 @@ use lib.Bits.{bitAnd}
 use lib.Count.{ones}
 use borrow.Author.Tests.{eqb-true, eq-eqb, ne-eqb}
 use Rattle.sets.specs.declared.Set.{Set}
-use Rattle.sets.specs.Truth.{test, never, and-left, and-right, or-left, or-right, or-neither}
+use Rattle.sets.proofs.Truth.{test, never, and-left, and-right, or-left, or-right, or-neither}
 use Rattle.sets.specs.Masks.{hasBit}
 use Rattle.sets.specs.Numbers.{listed}
 use Rattle.sets.specs.Words.{member, members}
-use Rattle.sets.specs.WordLaws.{member-insert, insert-shape, union-shape, intersect-shape, listed-members}
+use Rattle.sets.proofs.WordLaws.{member-insert, insert-shape, union-shape, intersect-shape, listed-members}
 use Rattle.sets.specs.Sets.{capacity, has, with, withIf, join, meet, membersOf, Shape}
 use Rattle.posting.specs.declared.Table.{Table}
 use Rattle.posting.specs.Conflicts.{offered, conflictSet}
-use Rattle.posting.specs.ConflictLaws.{offered-below, conflict-set-shape}
+use Rattle.posting.proofs.ConflictLaws.{offered-below, conflict-set-shape}
 use Rattle.site.specs.declared.Setup.{Setup}
 use Rattle.site.specs.declared.Site.{Site}
 use Rattle.site.specs.declared.Tally.{Tally}

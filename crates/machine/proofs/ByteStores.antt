@@ -17,7 +17,7 @@ use Rattle.arrays.specs.Layout.{countAt, loggedAt, placeAt, deliveredAt, downAt
 use Rattle.arrays.specs.Arrays.{Arrays, withCounts, withBytes, withMasks, withGood, withCarried, byte, marked}
 use Rattle.arrays.proofs.Slots.{part-ext, part-set}
 use Rattle.flat.specs.Flat.{hearing, tallying}
-use Rattle.views.specs.Views.{recordOf, siteOf, tallyOf, rowOf, tableOf, logOf}
+use Rattle.views.specs.Views.{recordIn, siteOf, tallyOf, rowOf, tableOf, logOf}
 use Rattle.machine.proofs.Local.{Local, localOf, Elsewhere, Long}
 use Rattle.machine.proofs.Stores.{Changes, changes-then, changes-as, localSite, localTally, localDown, tallyMasks}
 
@@ -104,7 +104,7 @@ module _ (p m : ℕ) (hp : p < sites) (hm : m < capacity) (a : Arrays) (long : L
         )
 
     byte-site : (q : ℕ) → q < sites → q ≢ p → siteOf newBytes q ≡ siteOf a q
-    unfolding siteOf recordOf
+    unfolding siteOf recordIn
     byte-site q h n =
         rw (part-same (heardAt q 0) (o .heard q h n), part-same (goodAt q 0) (o .good q h n), part-same (recordAt q 0) (o .delivered q h n))
 
@@ -145,7 +145,7 @@ module _ (p m : ℕ) (hp : p < sites) (hm : m < capacity) (a : Arrays) (long : L
 
   -- a site goes down, if its step is cut
   pub store-mark : (at : ℕ) (cut : Cut) → Changes p m a (withBytes a (marked (a .bytes) at cut)) (λ l. localDown l (downAfter (l .down) at cut))
-  unfolding marked siteOf tallyOf recordOf
+  unfolding marked siteOf tallyOf recordIn
   store-mark at cut =
       let v = downAfter (byte (a .bytes) downAt) at cut in
       let o = own-down p m hp hm in
@@ -187,7 +187,7 @@ module _ (p m : ℕ) (hp : p < sites) (hm : m < capacity) (a : Arrays) (long : L
 
   -- what site p has heard for m
   pub store-heard : (heard good : ℕ) → Changes p m a (withBytes a (hearing (a .bytes) p m heard good)) (λ l. localSite l (siteHeard (l .site) m heard good))
-  unfolding hearing siteOf tallyOf recordOf
+  unfolding hearing siteOf tallyOf recordIn
   store-heard heard good =
       let k = heardAt p m in
       let i = goodAt p m in
@@ -210,7 +210,7 @@ module _ (p m : ℕ) (hp : p < sites) (hm : m < capacity) (a : Arrays) (long : L
 
   -- the masks of m's tally
   pub store-tallied : (heard has : ℕ) → Changes p m a (withBytes a (tallying (a .bytes) m heard has)) (λ l. localTally l (tallyMasks (l .tally) heard has))
-  unfolding tallying siteOf tallyOf recordOf
+  unfolding tallying siteOf tallyOf recordIn
   store-tallied heard has =
       let k = talliedAt m in
       let i = hasAt m in
@@ -235,7 +235,7 @@ module _ (p m : ℕ) (hp : p < sites) (hm : m < capacity) (a : Arrays) (long : L
 module _ (p m : ℕ) (hp : p < sites) (a : Arrays) (long : Long a) where
   pub elsewhere-count :
       (k v : ℕ) → 2 ≤ k → ((q : ℕ) → q < sites → q ≢ p → (placeAt q ≢ k) × (deliveredAt q ≢ k)) → Elsewhere p m a (withCounts a (set (a .counts) k v))
-  unfolding siteOf recordOf tallyOf tableOf rowOf logOf
+  unfolding siteOf recordIn tallyOf tableOf rowOf logOf
   elsewhere-count k v past off =
       record {
         other-sites = λ q h n. rw (left (placeAt q) (off q h n .0), left (deliveredAt q) (off q h n .1));
@@ -252,7 +252,7 @@ module _ (p m : ℕ) (hp : p < sites) (a : Arrays) (long : Long a) where
 
   -- p's place in the log
   pub store-place : (v : ℕ) → Changes p m a (withCounts a (set (a .counts) (placeAt p) v)) (λ l. localSite l (sitePlace (l .site) v))
-  unfolding siteOf tallyOf recordOf
+  unfolding siteOf tallyOf recordIn
   store-place v =
       let b : placeAt p < length (a .counts) = omega (arith, long .counts-long) in
       record {
@@ -271,7 +271,7 @@ module _ (p m : ℕ) (hp : p < sites) (a : Arrays) (long : Long a) where
 
   -- what is in flight is neither theirs nor another's
   pub store-flight : (masks good carried : List ℕ) → length masks ≡ cells → Changes p m a (withCarried (withGood (withMasks a masks) good) carried) (λ l. l)
-  unfolding siteOf tallyOf recordOf tableOf rowOf logOf
+  unfolding siteOf tallyOf recordIn tableOf rowOf logOf
   store-flight masks good carried fits =
       record {
         elsewhere = record {

@@ -6,13 +6,14 @@ use mathlib.Core.Logic.{inl, inr, _≢_}
 use mathlib.Core.Bool.{Bool, true, false, not}
 use mathlib.Core.List.{List, [], _∷_, _++_, append-nil}
 use native.Mathlib.Omega.{arith}
-use Rattle.sets.specs.Truth.{test}
+use Rattle.sets.proofs.Truth.{test}
 use Rattle.machine.specs.declared.Board.{Board}
 use Rattle.machine.specs.declared.Outcome.{Outcome}
 use Rattle.machine.specs.declared.Answer.the-variants.{Refused}
 use Rattle.machine.specs.Boards.{freshBoard, blankBoard}
 use Rattle.machine.specs.Soundness.{isSound}
-use Rattle.steps.specs.Causes.{Cause, cause, firstCause}
+use Rattle.steps.specs.Causes.{Cause, cause}
+use Rattle.steps.specs.CauseLists.{firstCause}
 use Rattle.machine.specs.Calls.{judged, starting}
 use Rattle.machine.specs.ByMask.{startCauses, refusing, taken}
 

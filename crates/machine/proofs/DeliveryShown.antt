@@ -14,24 +14,24 @@ use lib.ListN.{length, getD, set, length-set}
 use lib.Seq.{getD-set-same, getD-set-other}
 use borrow.Author.Tests.{ltb-true, ltb-false}
 use Rattle.sets.specs.declared.Set.{Set}
-use Rattle.sets.specs.Truth.{test}
+use Rattle.sets.proofs.Truth.{test}
 use Rattle.sets.specs.Words.{member, members, membersBelow}
-use Rattle.sets.specs.WordLaws.{member-insert}
+use Rattle.sets.proofs.WordLaws.{member-insert}
 use Rattle.sets.specs.Sets.{capacity, has, membersOf}
 use Rattle.posting.specs.declared.Record.{Record}
 use Rattle.posting.specs.Records.{contains}
-use Rattle.posting.specs.RecordLaws.{append-room, append-full, contains-append}
+use Rattle.posting.proofs.RecordLaws.{append-room, append-full, contains-append}
 use Rattle.books.specs.Books.{tabulate}
 use Rattle.site.specs.Sites.{sites, siteDelivered}
 use Rattle.site.specs.Steps.{delivering, deliveringAll}
 use Rattle.site.specs.ByMask.{deliveringEntry}
 use Rattle.flight.specs.Flights.{wordsFrom}
-use Rattle.flight.specs.CarriedLaws.{length-words-from}
+use Rattle.flight.proofs.CarriedLaws.{length-words-from}
 use Rattle.arrays.specs.Layout.{seenOf, heldOf, steppedOf, finishedOf, gotOf, poolSlot, unionOf, entryOf, kindOf, haveOf, countAt, loggedAt, placeAt, deliveredAt, downAt, ownerAt, kindAt, fromAt, intoAt, talliedAt, hasAt, logAt, heardAt, goodAt, recordAt}
 use Rattle.arrays.specs.Arrays.{Arrays, arrays, slotSet, hasIn, adding, byte}
 use Rattle.arrays.proofs.Slots.{part-ext, part-other, part-set, slot-long, has-slot, long-added, slot-added, slot-added-other}
 use Rattle.delivery.specs.Delivery.{Laid, laid, delivered, deliveredAll, deliveredEntry}
-use Rattle.views.specs.Views.{recordOf, siteOf, tallyOf, rowOf, tableOf, logOf}
+use Rattle.views.specs.Views.{recordIn, siteOf, tallyOf, rowOf, tableOf, logOf}
 use Rattle.machine.specs.View.{Right}
 use Rattle.machine.proofs.Local.{Local, localOf, Elsewhere, indexed-same, right-local, site-record}
 use Rattle.machine.proofs.Stores.{localSite, Changes}
@@ -47,8 +47,8 @@ laidOf a = laid (a .sets) (a .counts) (a .bytes)
 
 -- the record of site p is then `after`; all else of the board is the same, and the arrays are right
 pub record Redelivered (p : ℕ) (a : Arrays) (r : Laid) (after : Record) : Type 0 where
-  pub own : recordOf (relaid a r) p ≡ after
-  pub others : (q : ℕ) → q < sites → q ≢ p → recordOf (relaid a r) q ≡ recordOf a q
+  pub own : recordIn (relaid a r) p ≡ after
+  pub others : (q : ℕ) → q < sites → q ≢ p → recordIn (relaid a r) q ≡ recordIn a q
   pub slots : (slot : ℕ) → slot ≢ haveOf p → slotSet (r .sets) slot ≡ slotSet (a .sets) slot
   pub counts : (k : ℕ) → k ≢ deliveredAt p → getD (r .counts) k 0 ≡ getD (a .counts) k 0
   pub bytes : (k : ℕ) → k < recordAt 0 0 → byte (r .bytes) k ≡ byte (a .bytes) k
@@ -150,7 +150,7 @@ module _ (a : Arrays) (p : ℕ) (hp : p < sites) (r : Laid) (after : Record) (so
 -- ---- one posting
 
 module _ (a : Arrays) (ok : Right a) (p : ℕ) (hp : p < sites) where
-  redelivered-refl : Redelivered p a (laidOf a) (recordOf a p)
+  redelivered-refl : Redelivered p a (laidOf a) (recordIn a p)
   redelivered-refl =
       record { own = refl; others = λ q h n. refl; slots = λ slot n. refl; counts = λ k n. refl; bytes = λ k h. refl; right = ok }
 
@@ -175,8 +175,8 @@ module _ (a : Arrays) (ok : Right a) (p : ℕ) (hp : p < sites) where
       next-byte : (k : ℕ) → k < recordAt 0 0 → byte (next .bytes) k ≡ byte (a .bytes) k
       next-byte k h = getD-set-other (a .bytes) (recordAt p count) k m 0 (omega arith)
 
-      next-own : recordOf (relaid a next) p ≡ grown
-      unfolding recordOf
+      next-own : recordIn (relaid a next) p ≡ grown
+      unfolding recordIn
       next-own =
           rw (
             getD-set-same (a .counts) (deliveredAt p) (count + 1) 0 (omega (arith, ok .counts-long)),
@@ -191,8 +191,8 @@ module _ (a : Arrays) (ok : Right a) (p : ℕ) (hp : p < sites) where
       apart q n (yes h) = inr (omega arith)
       apart q n (no h) = inl (omega arith)
 
-      next-other : (q : ℕ) → q < sites → q ≢ p → recordOf (relaid a next) q ≡ recordOf a q
-      unfolding recordOf
+      next-other : (q : ℕ) → q < sites → q ≢ p → recordIn (relaid a next) q ≡ recordIn a q
+      unfolding recordIn
       next-other q h n =
           rw (
             next-count (deliveredAt q) (λ e. n (omega arith)),
@@ -200,17 +200,17 @@ module _ (a : Arrays) (ok : Right a) (p : ℕ) (hp : p < sites) where
           )
 
       -- what each record has
-      next-have-own : (x : ℕ) → x < capacity → hasIn (next .sets) (haveOf p) x ≡ contains (recordOf (relaid a next) p) x
-      unfolding recordOf
+      next-have-own : (x : ℕ) → x < capacity → hasIn (next .sets) (haveOf p) x ≡ contains (recordIn (relaid a next) p) x
+      unfolding recordIn
       next-have-own x h =
           has-slot (next .sets) (haveOf p) x h
           ∙ ap (λ (s : Set). has s x) (slot-added (a .sets) (haveOf p) m hm (omega arith) (ok .sets-long))
           ∙ member-insert (slotSet (a .sets) (haveOf p) .words) m x (omega (arith, slot-long (a .sets) (haveOf p)))
           ∙ ap (λ (y : Bool). y || eqb x m) (sym (has-slot (a .sets) (haveOf p) x h) ∙ ok .have p x hp h)
-          ∙ sym (contains-append (recordOf a p) m room hm (length-words-from (a .bytes) (recordAt p 0) capacity) x)
-          ∙ ap (λ (r : Record). contains r x) (append-room (recordOf a p) m room hm ∙ sym next-own)
+          ∙ sym (contains-append (recordIn a p) m room hm (length-words-from (a .bytes) (recordAt p 0) capacity) x)
+          ∙ ap (λ (r : Record). contains r x) (append-room (recordIn a p) m room hm ∙ sym next-own)
 
-      next-have : (q x : ℕ) → q < sites → x < capacity → hasIn (next .sets) (haveOf q) x ≡ contains (recordOf (relaid a next) q) x
+      next-have : (q x : ℕ) → q < sites → x < capacity → hasIn (next .sets) (haveOf q) x ≡ contains (recordIn (relaid a next) q) x
       next-have q x hq h = elim (ℕ-discrete q p) [
         | yes e ↦ rw e (next-have-own x h)
         | no n ↦
@@ -246,7 +246,7 @@ module _ (a : Arrays) (ok : Right a) (p : ℕ) (hp : p < sites) where
     abbrev has-it : Bool
     has-it = hasIn (a .sets) (haveOf p) m
 
-    stays : (r : Laid) (after : Record) → r ≡ laidOf a → after ≡ recordOf a p → Redelivered p a r after
+    stays : (r : Laid) (after : Record) → r ≡ laidOf a → after ≡ recordIn a p → Redelivered p a r after
     stays r after e f = rw (e, f) redelivered-refl
 
     grows : (r : Laid) (after : Record) → count < capacity → r ≡ next → after ≡ grown → Redelivered p a r after
@@ -264,25 +264,25 @@ module _ (a : Arrays) (ok : Right a) (p : ℕ) (hp : p < sites) where
     unfolding delivered
     laid-next f t = rw (f, t)
 
-    record-has : has-it ≡ true → delivering (recordOf a p) m ≡ recordOf a p
+    record-has : has-it ≡ true → delivering (recordIn a p) m ≡ recordIn a p
     unfolding delivering
     record-has t = rw (sym (ok .have p m hp hm) ∙ t)
 
-    record-full : has-it ≡ false → ltb count capacity ≡ false → delivering (recordOf a p) m ≡ recordOf a p
-    unfolding delivering recordOf
-    record-full f g = rw (sym (ok .have p m hp hm) ∙ f, append-full (recordOf a p) m (ltb-false count capacity g))
+    record-full : has-it ≡ false → ltb count capacity ≡ false → delivering (recordIn a p) m ≡ recordIn a p
+    unfolding delivering recordIn
+    record-full f g = rw (sym (ok .have p m hp hm) ∙ f, append-full (recordIn a p) m (ltb-false count capacity g))
 
-    record-next : has-it ≡ false → ltb count capacity ≡ true → delivering (recordOf a p) m ≡ grown
-    unfolding delivering recordOf
-    record-next f t = rw (sym (ok .have p m hp hm) ∙ f, append-room (recordOf a p) m (ltb-true count capacity t) hm)
+    record-next : has-it ≡ false → ltb count capacity ≡ true → delivering (recordIn a p) m ≡ grown
+    unfolding delivering recordIn
+    record-next f t = rw (sym (ok .have p m hp hm) ∙ f, append-room (recordIn a p) m (ltb-true count capacity t) hm)
 
-    pub one-delivered : Redelivered p a (delivered (laidOf a) p m) (delivering (recordOf a p) m)
+    pub one-delivered : Redelivered p a (delivered (laidOf a) p m) (delivering (recordIn a p) m)
     one-delivered = elim (test has-it) [
-      | inl t ↦ stays (delivered (laidOf a) p m) (delivering (recordOf a p) m) (laid-has t) (record-has t)
+      | inl t ↦ stays (delivered (laidOf a) p m) (delivering (recordIn a p) m) (laid-has t) (record-has t)
       | inr f ↦ elim (test (ltb count capacity)) [
         | inl t ↦
-            grows (delivered (laidOf a) p m) (delivering (recordOf a p) m) (ltb-true count capacity t) (laid-next f t) (record-next f t)
-        | inr g ↦ stays (delivered (laidOf a) p m) (delivering (recordOf a p) m) (laid-full f g) (record-full f g)
+            grows (delivered (laidOf a) p m) (delivering (recordIn a p) m) (ltb-true count capacity t) (laid-next f t) (record-next f t)
+        | inr g ↦ stays (delivered (laidOf a) p m) (delivering (recordIn a p) m) (laid-full f g) (record-full f g)
       ]
     ]
 
@@ -307,17 +307,17 @@ AllPostings (m ∷ l) = (m < capacity) × AllPostings l
 
 pub all-delivered :
     (a : Arrays) → Right a → (p : ℕ) → p < sites → (l : List ℕ) → AllPostings l
-    → Redelivered p a (deliveredAll (laidOf a) p l) (deliveringAll (recordOf a p) l)
+    → Redelivered p a (deliveredAll (laidOf a) p l) (deliveringAll (recordIn a p) l)
 unfolding deliveredAll deliveringAll AllPostings
 all-delivered a ok p hp [] h = redelivered-refl a ok p hp
 all-delivered a ok p hp (m ∷ l) (hm, h) =
     let r = delivered (laidOf a) p m in
     let one = one-delivered a ok p hp m hm in
-    redelivered-then p a r (deliveredAll r p l) (delivering (recordOf a p) m) (deliveringAll (delivering (recordOf a p) m) l) one
+    redelivered-then p a r (deliveredAll r p l) (delivering (recordIn a p) m) (deliveringAll (delivering (recordIn a p) m) l) one
     (rest (relaid a r) (deliveredAll r p l) (one .own) (all-delivered (relaid a r) (one .right) p hp l h))
   where
-    rest : (d : Arrays) (s : Laid) → recordOf d p ≡ delivering (recordOf a p) m → Redelivered p d s (deliveringAll (recordOf d p) l)
-        → Redelivered p d s (deliveringAll (delivering (recordOf a p) m) l)
+    rest : (d : Arrays) (s : Laid) → recordIn d p ≡ delivering (recordIn a p) m → Redelivered p d s (deliveringAll (recordIn d p) l)
+        → Redelivered p d s (deliveringAll (delivering (recordIn a p) m) l)
     rest d s e x = rw e at x
 
 -- ---- a log entry
@@ -346,7 +346,7 @@ module _ (a : Arrays) (ok : Right a) (p : ℕ) (hp : p < sites) (m : ℕ) (hm : 
       postings-last (membersOf carried) m
       (members-postings (carried .words) (64 * length (carried .words)) (omega (arith, slot-long (a .sets) (entryOf m)))) hm
 
-  pub entry-delivered : Redelivered p a (deliveredEntry (laidOf a) p m) (deliveringEntry (recordOf a p) carried m)
+  pub entry-delivered : Redelivered p a (deliveredEntry (laidOf a) p m) (deliveringEntry (recordIn a p) carried m)
   unfolding deliveredEntry
   entry-delivered = all-delivered a ok p hp (membersOf carried ++ (m ∷ [])) entry-postings
 
@@ -355,6 +355,6 @@ module _ (a : Arrays) (ok : Right a) (p : ℕ) (hp : p < sites) (m : ℕ) (hm : 
 -- changes that leave the record keep the arrays right
 pub changes-right :
     {p m : ℕ} {a d : Arrays} {change : Local → Local} → Right a → Changes p m a d change
-    → change (localOf a p m) .site .delivered ≡ recordOf a p → Right d
+    → change (localOf a p m) .site .delivered ≡ recordIn a p → Right d
 changes-right {p} {m} {a} {d} r x same =
     right-local r (x .elsewhere) (x .long) (x .have) (sym (site-record d p) ∙ ap (λ (l : Local). l .site .delivered) (x .own) ∙ same)

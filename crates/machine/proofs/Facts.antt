@@ -8,12 +8,12 @@ use native.Mathlib.Omega.{arith}
 use lib.Dec.{ltb, leb}
 use lib.ListN.{length}
 use borrow.Author.Tests.{ltb-true, leb-true, leb-false}
-use Rattle.sets.specs.Truth.{test, and-left, and-right}
+use Rattle.sets.proofs.Truth.{test, and-left, and-right}
 use Rattle.sets.specs.Masks.{hasBit}
 use Rattle.sets.specs.Sets.{capacity}
 use Rattle.posting.specs.declared.Posting.{Posting}
 use Rattle.posting.specs.Kinds.{fieldsOk}
-use Rattle.posting.specs.ConflictLaws.{offered-below}
+use Rattle.posting.proofs.ConflictLaws.{offered-below}
 use Rattle.site.specs.declared.Setup.{Setup}
 use Rattle.site.specs.Sites.{sites}
 use Rattle.site.specs.Sends.{forms}
@@ -22,7 +22,7 @@ use Rattle.flight.specs.Flights.{cells, isPair, isCell, receiversIn, messageIn,
 use Rattle.machine.specs.declared.Board.{Board}
 use Rattle.machine.specs.Boards.{loggedAt}
 use Rattle.machine.specs.Soundness.{setupOk, isSound}
-use Rattle.steps.specs.Causes.{firstCause, siteCauses, offerCauses}
+use Rattle.steps.specs.CauseLists.{firstCause, siteCauses, offerCauses}
 use Rattle.machine.proofs.SoundFacts.{of-all, Sound}
 use Rattle.machine.proofs.SoundTest.{sound-facts}
 

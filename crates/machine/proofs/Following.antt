@@ -12,8 +12,8 @@ use lib.ListN.{length, length-set}
 use lib.Count.{ones}
 use borrow.Author.Tests.{eq-eqb, ne-eqb}
 use Rattle.sets.specs.declared.Set.{Set}
-use Rattle.sets.specs.Truth.{test}
-use Rattle.sets.specs.MaskLaws.{has-bit-zero}
+use Rattle.sets.proofs.Truth.{test}
+use Rattle.sets.proofs.MaskLaws.{has-bit-zero}
 use Rattle.sets.specs.Words.{insertIf}
 use Rattle.sets.specs.Sets.{capacity, withIf}
 use Rattle.masks.specs.SiteMasks.{firstSites}
@@ -24,16 +24,17 @@ use Rattle.site.specs.declared.Tally.{Tally}
 use Rattle.site.specs.Sites.{sites}
 use Rattle.site.specs.Sends.{FIRST}
 use Rattle.site.specs.ByMask.{noStepByMask}
-use Rattle.flight.specs.Flights.{cells, cellAt, writeAt, takingFrom, sendingTo, goodTaken, goodSent, setTaken, setSent}
-use Rattle.flight.specs.ArrayLaws.{sending-none}
+use Rattle.flight.specs.Flights.{cells, cellAt, writeAt, takingFrom, sendingTo, goodTaken, setTaken}
+use Rattle.flight.specs.ByMask.{goodSent, setSent}
+use Rattle.flight.proofs.ArrayLaws.{sending-none}
 use Rattle.steps.specs.declared.Cut.{Cut}
 use Rattle.steps.specs.declared.Cut.the-variants.{Whole, After}
-use Rattle.steps.specs.Cuts.{sitesTo, settledTo, downAfter}
+use Rattle.steps.specs.Cuts.{sitesTo, afterDeliveryTo, downAfter}
 use Rattle.steps.specs.ByMask.{enters, entered}
 use Rattle.arrays.specs.Layout.{poolSlot, entryOf, downAt}
 use Rattle.arrays.specs.Arrays.{Arrays, slotSet, byte}
 use Rattle.flat.specs.Flat.{Flat, flat, refusedOr, followed, cutCause}
-use Rattle.views.specs.Views.{recordOf}
+use Rattle.views.specs.Views.{recordIn}
 use Rattle.machine.specs.View.{Right}
 use Rattle.machine.proofs.Local.{Local, localOf, Follows, Received, sentTo, receipt-shown, right-local, site-record}
 use Rattle.machine.proofs.Stores.{Changes}
@@ -71,7 +72,7 @@ unfolding insertIf
 no-entry s m = refl
 
 -- nothing is delivered
-pub settled-none : (s : Site) (m : ℕ) (cut : Cut) → s ≡ settledTo s false m cut
+pub settled-none : (s : Site) (m : ℕ) (cut : Cut) → s ≡ afterDeliveryTo s false m cut
 settled-none s m Whole = refl
 settled-none s m (After j) = refl
 
@@ -97,7 +98,7 @@ module _ (setup : Setup) (a d : Arrays) (form m from to : ℕ) (s : Stepped) (cu
   -- a receipt that delivers nothing, by its changes
   pub changes-follow :
       {f : Local → Local} → Changes to m a d f → let l = f (localOf a to m) in
-      l .site ≡ settledTo (s .site) (s .delivers) m cut → l .site .delivered ≡ recordOf a to → l .tally ≡ s .tally
+      l .site ≡ afterDeliveryTo (s .site) (s .delivers) m cut → l .site .delivered ≡ recordIn a to → l .tally ≡ s .tally
       → d .masks ≡ sendingTo (takingFrom (a .masks) form m from to) (s .sends .form) m to (sitesTo (s .sends .to) cut)
       → d .good ≡ goodSent (goodTaken (a .good) form m from to) (s .sends .form) m to (sitesTo (s .sends .to) cut) (s .sends .good)
       → d .carried ≡ setSent (setTaken (a .carried) form m from) (s .sends .form) m to (sitesTo (s .sends .to) cut) (s .sends .carried)
@@ -122,7 +123,7 @@ module _ (setup : Setup) (a d : Arrays) (form m from to : ℕ) (s : Stepped) (cu
 pub quiet-follows :
     (setup : Setup) (a d : Arrays) (form m from to : ℕ) (cut : Cut) → Right a → m < capacity → to < sites → (site : Site) (tally : Tally) {f : Local → Local}
     → Changes to m a d f → let l = f (localOf a to m) in
-    l .site ≡ site → l .site .delivered ≡ recordOf a to → l .tally ≡ tally
+    l .site ≡ site → l .site .delivered ≡ recordIn a to → l .tally ≡ tally
     → d .masks ≡ takingFrom (a .masks) form m from to → d .good ≡ goodTaken (a .good) form m from to → d .carried ≡ setTaken (a .carried) form m from
     → l .pool ≡ slotSet (a .sets) poolSlot → l .entry ≡ slotSet (a .sets) (entryOf m) → l .down ≡ downAfter (byte (a .bytes) downAt) to cut
     → Follows setup a form m from to cut (noStepByMask site tally) (refusedOr (cutCause setup (a .bytes) 0 cut) a (flat 0 d))

@@ -8,7 +8,7 @@ use native.Mathlib.Omega.{arith}
 use native.Mathlib.Decide.{decLt}
 use lib.ListN.{length, getD, replicate, length-replicate, getD-replicate, List·getD-eq-default}
 use Rattle.sets.specs.Numbers.{listed}
-use Rattle.sets.specs.WordLaws.{member-empty}
+use Rattle.sets.proofs.WordLaws.{member-empty}
 use Rattle.sets.specs.Sets.{words, capacity, emptySet, has}
 use Rattle.sets.specs.declared.Set.{Set}
 use Rattle.posting.specs.declared.Record.{Record}
@@ -26,7 +26,7 @@ use Rattle.arrays.specs.Arrays.{Arrays, arrays, slotSet, hasIn}
 use Rattle.arrays.proofs.Slots.{slot-zero, has-slot}
 use Rattle.index.proofs.Indexed.{indexed-empty}
 use Rattle.machine.specs.Boards.{freshBoard}
-use Rattle.views.specs.Views.{recordOf, siteOf, tallyOf, rowOf, tableOf, logOf}
+use Rattle.views.specs.Views.{recordIn, siteOf, tallyOf, rowOf, tableOf, logOf}
 use Rattle.machine.specs.View.{view, Right}
 
 -- nothing in any array
@@ -50,8 +50,8 @@ table-constant : {A : Type 0} (n : ℕ) (f : ℕ → A) (x : A) → ((q : ℕ) �
 table-constant {A} n f x same =
     sym (is-tabulate n f x (replicate n x) (length-replicate n x) (λ k h. getD-replicate n k x x h ∙ sym (same k)))
 
-zero-record : (p : ℕ) → recordOf zeros p ≡ record { count = 0; numbers = replicate capacity 0 }
-unfolding recordOf
+zero-record : (p : ℕ) → recordIn zeros p ≡ record { count = 0; numbers = replicate capacity 0 }
+unfolding recordIn
 zero-record p = rw (zero-at countsLong (deliveredAt p), part-zero (replicate bytesLong 0) (recordAt p 0) capacity (zero-at bytesLong))
 
 zero-site : (p : ℕ) → siteOf zeros p ≡ blankSite
@@ -102,7 +102,7 @@ fresh-right =
       have = none;
     }
   where
-    none : (p x : ℕ) → p < sites → x < capacity → hasIn (replicate setsLong 0) (haveOf p) x ≡ contains (recordOf zeros p) x
+    none : (p x : ℕ) → p < sites → x < capacity → hasIn (replicate setsLong 0) (haveOf p) x ≡ contains (recordIn zeros p) x
     none p x hp hx =
         has-slot (replicate setsLong 0) (haveOf p) x hx ∙ ap (λ (s : Set). has s x) (slot-zero setsLong (haveOf p)) ∙ member-empty words x
         ∙ sym (ap (λ (r : Record). contains r x) (zero-record p) ∙ (unfold contains numbersOf listed in refl))

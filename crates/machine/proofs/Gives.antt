@@ -11,12 +11,12 @@ use lib.Dec.{eqb, ltb, leb}
 use lib.ListN.{length, getD, set}
 use lib.Count.{ones}
 use borrow.Author.Tests.{eq-eqb, ne-eqb, eqb-true, eqb-false, lt-ltb, le-ltb, le-leb, lt-leb, leb-true, leb-false}
-use Rattle.sets.specs.Truth.{test}
+use Rattle.sets.proofs.Truth.{test}
 use Rattle.sets.specs.Masks.{hasBit}
 use Rattle.sets.specs.Sets.{capacity, has}
 use Rattle.posting.specs.declared.Posting.{Posting}
 use Rattle.posting.specs.Kinds.{fieldsOk}
-use Rattle.posting.specs.KindLaws.{Fields, fields, row-kind}
+use Rattle.posting.proofs.KindLaws.{Fields, fields, row-kind}
 use Rattle.posting.specs.Conflicts.{row, conflictSet}
 use Rattle.site.specs.declared.Setup.{Setup}
 use Rattle.site.specs.declared.Stepped.{Stepped}
@@ -28,7 +28,7 @@ use Rattle.flight.specs.Flights.{cells, messageIn, inFlight}
 use Rattle.steps.specs.declared.Cut.{Cut}
 use Rattle.steps.specs.declared.Call.{Call}
 use Rattle.steps.specs.declared.Call.the-variants.{Offer, Receive, Order, Read, Crash}
-use Rattle.steps.specs.Causes.{firstCause, messageCauses, offerCauses}
+use Rattle.steps.specs.CauseLists.{firstCause, messageCauses, offerCauses}
 use Rattle.steps.specs.ByMask.{receiptByMask}
 use Rattle.arrays.specs.Layout.{downAt, countAt, kindAt, fromAt, intoAt}
 use Rattle.arrays.specs.Arrays.{Arrays, byte}

@@ -11,9 +11,9 @@ use lib.Seq.{sets, getD-set-same, getD-set-other, length-sets}
 use Rattle.sets.specs.Sets.{capacity}
 use Rattle.posting.specs.declared.Record.{Record}
 use Rattle.posting.specs.Kinds.{kinds, accounts}
-use Rattle.posting.specs.KindLaws.{Fields, fields, row-kind}
+use Rattle.posting.proofs.KindLaws.{Fields, fields, row-kind}
 use Rattle.posting.specs.Conflicts.{row, noPosting}
-use Rattle.posting.specs.ConflictLaws.{below-offered}
+use Rattle.posting.proofs.ConflictLaws.{below-offered}
 use Rattle.posting.specs.Records.{contains}
 use Rattle.books.proofs.Lists.{is-tabulate}
 use Rattle.site.specs.Sites.{sites, noSet, noSite, noTally}
@@ -24,7 +24,7 @@ use Rattle.arrays.proofs.Slots.{part-ext}
 use Rattle.machine.specs.declared.Board.{Board}
 use Rattle.machine.specs.Boards.{siteAt, tallyAt}
 use Rattle.machine.specs.Soundness.{isSound}
-use Rattle.views.specs.Views.{recordOf, siteOf, tallyOf, rowOf, tableOf, logOf}
+use Rattle.views.specs.Views.{recordIn, siteOf, tallyOf, rowOf, tableOf, logOf}
 use Rattle.machine.specs.View.{view, Right}
 use Rattle.layout.specs.Laying.{upTo, countNo, siteCounts, sitesCounts, layingCounts, columnNo, byteNo, siteBytes, postingBytes, sitesBytes, postingsBytes, layingBytes, layingAmounts, layingSets, Ranged}
 use Rattle.machine.proofs.Shapes.{BoardShape}
@@ -233,8 +233,8 @@ module _ (b : Board) (shape : BoardShape b) (ws cs bs rs : List ℕ) (s : SetsLa
   part : (i k p : ℕ) → i ≡ 1 + 7 * capacity + k * (sites * capacity) + p * capacity → k < 3 → p < sites → wordsFrom bs i capacity ≡ columnNo (siteAt b p) k
   part i k p e hk hp = rw e (y .site k p hk hp)
 
-  record-shown : (p : ℕ) → p < sites → recordOf all p ≡ siteAt b p .delivered
-  unfolding recordOf
+  record-shown : (p : ℕ) → p < sites → recordIn all p ≡ siteAt b p .delivered
+  unfolding recordIn
   record-shown p h = rw (c .delivered p h, part (recordAt p 0) 2 p (omega arith) (omega arith) h)
 
   site-shown : (p : ℕ) → p < sites → siteOf all p ≡ siteAt b p

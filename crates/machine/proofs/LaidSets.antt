@@ -9,7 +9,7 @@ use native.Mathlib.Numerals.{add-one}
 use lib.ListN.{length, getD, replicate, length-replicate}
 use lib.Seq.{set-getD}
 use Rattle.sets.specs.declared.Set.{Set}
-use Rattle.sets.specs.WordLaws.{collect-shape}
+use Rattle.sets.proofs.WordLaws.{collect-shape}
 use Rattle.sets.specs.Sets.{words, capacity, ofWords, emptySet, has}
 use Rattle.posting.specs.declared.Table.{Table}
 use Rattle.posting.specs.Conflicts.{row, noPosting, tableWith}

@@ -1,5 +1,7 @@
 -- What the proofs of the calls share: the shape of a board, what its soundness says, events on arrays seen through view; names for cases to unfold.
 -- Rests on the specs.
+pub mod SoundPartLaws
+pub mod QuietPartLaws
 pub mod Shapes
 pub mod Typed
 pub mod SoundFacts

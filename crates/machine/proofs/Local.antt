@@ -22,9 +22,10 @@ use Rattle.site.specs.declared.Sends.{Sends}
 use Rattle.site.specs.declared.Stepped.{Stepped}
 use Rattle.site.specs.Sites.{sites, noSet, noSite, noTally}
 use Rattle.site.specs.ByMask.{stepOf}
-use Rattle.flight.specs.Flights.{cells, flightOf, takingFrom, sendingTo, goodTaken, goodSent, setTaken, setSent, takingOut}
+use Rattle.flight.specs.Flights.{cells, flightOf, takingFrom, sendingTo, goodTaken, setTaken, takingOut}
+use Rattle.flight.specs.ByMask.{goodSent, setSent}
 use Rattle.steps.specs.declared.Cut.{Cut}
-use Rattle.steps.specs.Cuts.{sitesTo, settledTo, downAfter}
+use Rattle.steps.specs.Cuts.{sitesTo, afterDeliveryTo, downAfter}
 use Rattle.steps.specs.ByMask.{enters, entered}
 use Rattle.arrays.specs.Layout.{poolSlot, entryOf, kindOf, haveOf, setsLong, countsLong, bytesLong, downAt}
 use Rattle.arrays.specs.Arrays.{Arrays, slotSet, hasIn, byte}
@@ -34,7 +35,7 @@ use Rattle.flat.specs.Flat.{Flat, flat, cutCause}
 use Rattle.machine.specs.declared.Board.{Board}
 use Rattle.machine.specs.Boards.{siteAt, tallyAt, entryAt, boardFlight, boardDown}
 use Rattle.machine.specs.Calls.{carriedOut}
-use Rattle.views.specs.Views.{recordOf, siteOf, tallyOf, rowOf, tableOf, logOf}
+use Rattle.views.specs.Views.{recordIn, siteOf, tallyOf, rowOf, tableOf, logOf}
 use Rattle.machine.specs.View.{view, Right}
 use Rattle.machine.proofs.Placed.{boardParts, partTo, carried-parts}
 
@@ -165,7 +166,7 @@ sentTo s cut =
 -- site `to` receives, and takes step s, on the arrays
 pub record Received (a d : Arrays) (form m from to : ℕ) (s : Stepped) (cut : Cut) : Type 0 where
   pub elsewhere : Elsewhere to m a d
-  pub site : siteOf d to ≡ settledTo (s .site) (s .delivers) m cut
+  pub site : siteOf d to ≡ afterDeliveryTo (s .site) (s .delivers) m cut
   pub tally : tallyOf d m ≡ s .tally
   pub masks : d .masks ≡ sendingTo (takingFrom (a .masks) form m from to) (s .sends .form) m to (sitesTo (s .sends .to) cut)
   pub good : d .good ≡ goodSent (goodTaken (a .good) form m from to) (s .sends .form) m to (sitesTo (s .sends .to) cut) (s .sends .good)
@@ -234,13 +235,13 @@ right-long r =
     }
 
 -- the record of a site is its record of postings delivered
-pub site-record : (a : Arrays) (q : ℕ) → siteOf a q .delivered ≡ recordOf a q
+pub site-record : (a : Arrays) (q : ℕ) → siteOf a q .delivered ≡ recordIn a q
 unfolding siteOf
 site-record a q = refl
 
 pub right-local :
     {p m : ℕ} {a d : Arrays} → Right a → Elsewhere p m a d → Long d → slotSet (d .sets) (haveOf p) ≡ slotSet (a .sets) (haveOf p)
-    → recordOf d p ≡ recordOf a p → Right d
+    → recordIn d p ≡ recordIn a p → Right d
 right-local {p} {m} {a} {d} r x l have same =
     record {
       sets-long = l .sets-long;
@@ -252,10 +253,10 @@ right-local {p} {m} {a} {d} r x l have same =
       have = λ q y hq hy. kept q y hq hy;
     }
   where
-    other-record : (q : ℕ) → q < sites → q ≢ p → recordOf d q ≡ recordOf a q
+    other-record : (q : ℕ) → q < sites → q ≢ p → recordIn d q ≡ recordIn a q
     other-record q h n = sym (site-record d q) ∙ ap (λ (s : Site). s .delivered) (x .other-sites q h n) ∙ site-record a q
 
-    kept : (q y : ℕ) → q < sites → y < capacity → hasIn (d .sets) (haveOf q) y ≡ contains (recordOf d q) y
+    kept : (q y : ℕ) → q < sites → y < capacity → hasIn (d .sets) (haveOf q) y ≡ contains (recordIn d q) y
     kept q y hq hy = rw (has-slot (d .sets) (haveOf q) y hy) (elim (ℕ-discrete q p) [
       | yes e ↦ rw (e, have, same) (sym (has-slot (a .sets) (haveOf p) y hy) ∙ rw e at (r .have q y hq hy))
       | no n ↦ rw (x .other-have q hq n, other-record q hq n) (sym (has-slot (a .sets) (haveOf q) y hy) ∙ r .have q y hq hy)

@@ -5,7 +5,7 @@ use mathlib.Core.Path.{_≡_, refl, sym, ap, _∙_}
 use mathlib.Core.Logic.{inl, inr}
 use mathlib.Core.Bool.{true, false}
 use mathlib.Core.List.{List}
-use Rattle.sets.specs.Truth.{test}
+use Rattle.sets.proofs.Truth.{test}
 use Rattle.sets.specs.Words.{insertIf}
 use Rattle.sets.specs.Sets.{capacity, emptySet, has, with}
 use Rattle.posting.specs.declared.Posting.{Posting}
@@ -23,14 +23,14 @@ use Rattle.site.proofs.Fits as fits
 use Rattle.flight.specs.Flights.{takingFrom, sendingTo}
 use Rattle.steps.specs.declared.Cut.{Cut}
 use Rattle.steps.specs.declared.Cut.the-variants.{Whole, After}
-use Rattle.steps.specs.Cuts.{sitesTo, settledTo, downAfter}
+use Rattle.steps.specs.Cuts.{sitesTo, afterDeliveryTo, downAfter}
 use Rattle.arrays.specs.Layout.{gotOf, downAt, ownerAt}
 use Rattle.arrays.specs.Arrays.{Arrays, withSets, withBytes, withMasks, hasIn, adding, byte, marked}
 use Rattle.arrays.proofs.Slots.{has-slot}
 use Rattle.delivery.specs.Delivery.{delivered}
 use Rattle.flat.specs.Flat.{Flat, flat, refusedOr, cutCause, consumed, deliveredTo, flatDeliver}
 use Rattle.machine.specs.Boards.{siteAt, tallyAt}
-use Rattle.views.specs.Views.{recordOf, siteOf, tallyOf, rowOf}
+use Rattle.views.specs.Views.{recordIn, siteOf, tallyOf, rowOf}
 use Rattle.machine.specs.View.{view, Right}
 use Rattle.machine.proofs.Local.{Local, localOf, Elsewhere, Follows, Received, elsewhere-then, site-at, tally-at, row-at, right-long, site-record}
 use Rattle.machine.proofs.Stores.{localSite, localDown, Changes, changes-then, add-got}
@@ -73,7 +73,7 @@ delivers a m to cut masks = relaid (gets a m to cut masks) (deliveredTo (laidOf 
 
 module _ (a next : Arrays) (p m : ℕ) (hp : p < sites) (hm : m < capacity) (got : Site) (down : ℕ) (x : Elsewhere p m a next)
     (own : localOf next p m ≡ localDown (localSite (localOf a p m) got) down) (ok : Right next) where
-  whole : Redelivered p next (delivered (laidOf next) p m) (delivering (recordOf next p) m)
+  whole : Redelivered p next (delivered (laidOf next) p m) (delivering (recordIn next p) m)
   whole = one-delivered next ok p hp m hm
 
   -- what is site p's and posting m's, with m delivered
@@ -81,13 +81,13 @@ module _ (a next : Arrays) (p m : ℕ) (hp : p < sites) (hm : m < capacity) (got
   deliver l = localSite l (siteDelivered (l .site) (delivering (l .site .delivered) m))
 
   posting-own :
-      (cut : Cut) → localOf (relaid next (deliveredTo (laidOf next) p m cut)) p m ≡ localDown (localSite (localOf a p m) (settledTo got true m cut)) down
+      (cut : Cut) → localOf (relaid next (deliveredTo (laidOf next) p m cut)) p m ≡ localDown (localSite (localOf a p m) (afterDeliveryTo got true m cut)) down
   unfolding siteOf
-  posting-own Whole = delivered-own next p hp (delivered (laidOf next) p m) (delivering (recordOf next p) m) whole m hm ∙ ap deliver own
+  posting-own Whole = delivered-own next p hp (delivered (laidOf next) p m) (delivering (recordIn next p) m) whole m hm ∙ ap deliver own
   posting-own (After j) = own
 
   posting-else : (cut : Cut) → Elsewhere p m a (relaid next (deliveredTo (laidOf next) p m cut))
-  posting-else Whole = elsewhere-then x (delivered-elsewhere next p hp (delivered (laidOf next) p m) (delivering (recordOf next p) m) whole m)
+  posting-else Whole = elsewhere-then x (delivered-elsewhere next p hp (delivered (laidOf next) p m) (delivering (recordIn next p) m) whole m)
   posting-else (After j) = x
 
   posting-keeps : (cut : Cut) → Right (relaid next (deliveredTo (laidOf next) p m cut))
@@ -134,7 +134,7 @@ module _ (setup : Setup) (a : Arrays) (ok : Right a) (m from to : ℕ) (hm : m <
   delivers-right : Right (delivers a m to cut sends)
   delivers-right = posting-keeps a (gets a m to cut sends) to m ht hm got down (gets-changes .elsewhere) (gets-changes .own) gets-right cut
 
-  delivers-own : localOf (delivers a m to cut sends) to m ≡ localDown (localSite (localOf a to m) (settledTo got true m cut)) down
+  delivers-own : localOf (delivers a m to cut sends) to m ≡ localDown (localSite (localOf a to m) (afterDeliveryTo got true m cut)) down
   delivers-own = posting-own a (gets a m to cut sends) to m ht hm got down (gets-changes .elsewhere) (gets-changes .own) gets-right cut
 
   delivers-received : Received a (delivers a m to cut sends) DELIVER m from to (relays setup a m to) cut

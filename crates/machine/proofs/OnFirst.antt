@@ -26,7 +26,7 @@ use Rattle.arrays.proofs.Slots.{slot-long, insert-long}
 use Rattle.index.specs.Index.{conflictsIn}
 use Rattle.flat.specs.Flat.{flatFirst}
 use Rattle.machine.specs.Boards.{siteAt, tallyAt}
-use Rattle.views.specs.Views.{recordOf, siteOf, tallyOf}
+use Rattle.views.specs.Views.{recordIn, siteOf, tallyOf}
 use Rattle.machine.specs.View.{view, Right}
 use Rattle.machine.proofs.Local.{Long, Follows, right-long, site-at, tally-at}
 use Rattle.machine.proofs.Stores.{Changes, changes-then, localSite, localDown, store-seen}

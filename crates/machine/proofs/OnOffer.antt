@@ -35,7 +35,7 @@ use Rattle.flat.specs.Flat.{entered}
 use Rattle.machine.specs.declared.Board.{Board}
 use Rattle.machine.specs.Boards.{siteAt, tallyAt, entryAt, boardDown, boardTable, boardFlight}
 use Rattle.machine.specs.Calls.{carriedOut}
-use Rattle.views.specs.Views.{recordOf, siteOf, tallyOf, rowOf, tableOf, logOf}
+use Rattle.views.specs.Views.{recordIn, siteOf, tallyOf, rowOf, tableOf, logOf}
 use Rattle.machine.specs.View.{view, Right}
 use Rattle.machine.proofs.Placed.{boardParts, partTo, carried-parts}
 use Rattle.machine.proofs.ByteStores.{table-same}
@@ -71,7 +71,7 @@ module _ (setup : Setup) (a : Arrays) (ok : Right a) (p : Posting) (room : getD 
   slot-kept slot h = slot-indexed-other (a .sets) m (p .kind) (p .a) (p .b) room hk ha hb slot (inl h)
 
   site-kept : (q : ℕ) → q < sites → siteOf indexed q ≡ siteOf rowed q
-  unfolding siteOf recordOf
+  unfolding siteOf recordIn
   site-kept q h =
       rw (
         slot-kept (seenOf q) (omega arith),
@@ -108,8 +108,8 @@ module _ (setup : Setup) (a : Arrays) (ok : Right a) (p : Posting) (room : getD 
   unfolding tableOf
   index-right = rw (table-kept ∙ row-table setup a ok p room) (indexed-offer (ok .indexed) (ok .sets-long) p room rows-long hk ha hb)
 
-  record-kept : (q : ℕ) → recordOf indexed q ≡ recordOf a q
-  unfolding recordOf
+  record-kept : (q : ℕ) → recordIn indexed q ≡ recordIn a q
+  unfolding recordIn
   record-kept q = row-record setup a ok p room q
 
   right-indexed : Right indexed
@@ -124,7 +124,7 @@ module _ (setup : Setup) (a : Arrays) (ok : Right a) (p : Posting) (room : getD 
         have = have-kept;
       }
     where
-      have-kept : (q x : ℕ) → q < sites → x < capacity → hasIn (indexed .sets) (haveOf q) x ≡ contains (recordOf indexed q) x
+      have-kept : (q x : ℕ) → q < sites → x < capacity → hasIn (indexed .sets) (haveOf q) x ≡ contains (recordIn indexed q) x
       have-kept q x hq hx =
           has-slot (indexed .sets) (haveOf q) x hx
           ∙ ap (λ (s : Set). has s x) (slot-indexed-other (a .sets) m (p .kind) (p .a) (p .b) room hk ha hb (haveOf q) (inr (omega arith)))
@@ -143,7 +143,7 @@ module _ (setup : Setup) (a : Arrays) (ok : Right a) (p : Posting) (room : getD 
     offered = withMasks (withBytes indexed (marked (indexed .bytes) site cut)) sent
 
     pub offer-right : Right offered
-    unfolding tableOf rowOf recordOf
+    unfolding tableOf rowOf recordIn
     offer-right =
         let r = right-marked setup indexed right-indexed site hs cut in
         record {
@@ -170,7 +170,7 @@ module _ (setup : Setup) (a : Arrays) (ok : Right a) (p : Posting) (room : getD 
     shown = masks-shown ∙ ap (λ (x : Board). boardFlight x (flightOf sent (a .good) (a .carried))) down-shown
       where
         masks-shown : view setup offered ≡ boardFlight (view setup (withBytes indexed (marked (indexed .bytes) site cut))) (flightOf sent (a .good) (a .carried))
-        masks-shown = unfold view tableOf siteOf recordOf tallyOf rowOf logOf in refl
+        masks-shown = unfold view tableOf siteOf recordIn tallyOf rowOf logOf in refl
 
         down-shown : view setup (withBytes indexed (marked (indexed .bytes) site cut)) ≡ boardDown with-row (downAfter (b .down) site cut)
         down-shown =

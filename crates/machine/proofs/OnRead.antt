@@ -24,7 +24,7 @@ use Rattle.flat.specs.Flat.{entryDeliveredTo}
 use Rattle.machine.specs.declared.Board.{Board}
 use Rattle.machine.specs.Boards.{siteAt, tallyAt, entryAt}
 use Rattle.machine.specs.Calls.{carriedOut}
-use Rattle.views.specs.Views.{recordOf, siteOf, tallyOf}
+use Rattle.views.specs.Views.{recordIn, siteOf, tallyOf}
 use Rattle.machine.specs.View.{view, Right}
 use Rattle.machine.proofs.Placed.{boardRead, entry-carried}
 use Rattle.machine.proofs.Local.{Local, localOf, Elsewhere, elsewhere-then, site-at, tally-at, entry-at, view-local, right-long, site-record}
@@ -66,7 +66,7 @@ module _ (setup : Setup) (a d : Arrays) (p m : ℕ) (hp : p < sites) (hm : m < c
 module _ (a next : Arrays) (p m : ℕ) (hp : p < sites) (hm : m < capacity) (moved : Site) (down : ℕ) (x : Elsewhere p m a next)
     (own : localOf next p m ≡ localDown (localSite (localOf a p m) moved) down) (ok : Right next) where
   abbrev end : Record
-  end = deliveringEntry (recordOf next p) (slotSet (next .sets) (entryOf m)) m
+  end = deliveringEntry (recordIn next p) (slotSet (next .sets) (entryOf m)) m
 
   whole : Redelivered p next (deliveredEntry (laidOf next) p m) end
   whole = entry-delivered next ok p hp m hm

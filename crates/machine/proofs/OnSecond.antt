@@ -10,7 +10,7 @@ use lib.Dec.{eqb}
 use lib.ListN.{length, getD, set}
 use lib.Seq.{getD-set-same}
 use Rattle.sets.specs.declared.Set.{Set}
-use Rattle.sets.specs.Truth.{test}
+use Rattle.sets.proofs.Truth.{test}
 use Rattle.sets.specs.Masks.{hasBit}
 use Rattle.sets.specs.Words.{insertIf}
 use Rattle.sets.specs.Sets.{words, capacity, has, with, withIf, meet}
@@ -25,8 +25,9 @@ use Rattle.site.specs.Sends.{SECOND, THIRD}
 use Rattle.site.specs.Steps.{ownerOf}
 use Rattle.site.specs.ByMask.{reached, late, noStepByMask, stepSecondByMask, secondByMask}
 use Rattle.site.proofs.Fits.{only-fits}
-use Rattle.flight.specs.Flights.{cells, wordsFrom, goodIn, takingFrom, sendingTo, saying, setSent}
-use Rattle.flight.specs.CarriedLaws.{word-from, length-words-from}
+use Rattle.flight.specs.Flights.{cells, wordsFrom, goodIn, takingFrom, sendingTo, saying}
+use Rattle.flight.specs.ByMask.{setSent}
+use Rattle.flight.proofs.CarriedLaws.{word-from, length-words-from}
 use Rattle.steps.specs.declared.Cut.{Cut}
 use Rattle.steps.specs.Cuts.{sitesTo}
 use Rattle.arrays.specs.Layout.{seenOf, heldOf, steppedOf, poolSlot, ownerAt, heardAt, goodAt}

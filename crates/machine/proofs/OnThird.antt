@@ -10,9 +10,9 @@ use lib.Dec.{eqb, ltb}
 use lib.ListN.{length}
 use lib.Bits.{bitAnd, bitOr}
 use Rattle.sets.specs.declared.Set.{Set}
-use Rattle.sets.specs.Truth.{test}
+use Rattle.sets.proofs.Truth.{test}
 use Rattle.sets.specs.Words.{insertIf, union}
-use Rattle.sets.specs.WordLaws.{length-wordwise}
+use Rattle.sets.proofs.WordLaws.{length-wordwise}
 use Rattle.sets.specs.Sets.{words, capacity, emptySet, has, with, withIf, join}
 use Rattle.masks.specs.SiteMasks.{everySite, withSite, withSiteIf}
 use Rattle.site.specs.declared.Setup.{Setup}
@@ -26,13 +26,13 @@ use Rattle.site.specs.Steps.{majority}
 use Rattle.site.specs.ByMask.{ENTRY, reached, late, noStepByMask, finishSends, stepThirdByMask, thirdByMask}
 use Rattle.site.proofs.Fits.{every-fits}
 use Rattle.flight.specs.Flights.{pairs, cells, pairAt, cellAt, setIn, takingFrom, sendingTo, carrying}
-use Rattle.flight.specs.CarriedLaws.{length-words-from}
+use Rattle.flight.proofs.CarriedLaws.{length-words-from}
 use Rattle.steps.specs.declared.Cut.{Cut}
 use Rattle.steps.specs.Cuts.{sitesTo, downAfter}
 use Rattle.arrays.specs.Layout.{finishedOf, poolSlot, unionOf, entryOf, talliedAt, hasAt}
 use Rattle.arrays.specs.Arrays.{Arrays, withSets, withBytes, withMasks, withGood, withCarried, slotSet, storing, hasIn, adding, byte, marked}
 use Rattle.arrays.proofs.Slots.{slot-long, has-slot}
-use Rattle.flat.specs.Flat.{consumed, passedThird, tallying, heardThird, finishing, sentThird, entering, pooledThird, settledThird, flatThird, cutCause, refusedOr, flat, followed, Flat}
+use Rattle.flat.specs.Flat.{consumed, passedThird, tallying, heardThird, finishing, sentThird, entering, pooledThird, concludedThird, flatThird, cutCause, refusedOr, flat, followed, Flat}
 use Rattle.machine.specs.Boards.{siteAt, tallyAt}
 use Rattle.views.specs.Views.{siteOf, tallyOf}
 use Rattle.machine.specs.View.{view, Right}
@@ -190,8 +190,8 @@ module _ (setup : Setup) (a : Arrays) (right : Right a) (n : setup .n ≤ sites)
     settled-follows :
         Follows setup a THIRD m from to cut
         (cond (reached setup heard) (stepThirdByMask setup (siteOf a to) after m) (noStepByMask (siteOf a to) after))
-        (settledThird setup a m from to heard has union cut)
-    unfolding settledThird
+        (concludedThird setup a m from to heard has union cut)
+    unfolding concludedThird
     settled-follows =
         rw step-is
         (either-follows (reached setup heard) _ _ _ _

@@ -19,7 +19,7 @@ use Rattle.site.specs.Sites.{sites, plus}
 use Rattle.site.specs.Sends.{Step}
 use Rattle.site.specs.Steps.{onOffer}
 use Rattle.site.specs.ByMask.{stepOf, offerByMask}
-use Rattle.site.specs.ByMaskLaws.{offer-is}
+use Rattle.site.proofs.ByMaskLaws.{offer-is}
 use Rattle.site.proofs.Fits.{offer-fits}
 use Rattle.machine.specs.declared.Board.{Board}
 use Rattle.steps.specs.declared.Cut.{Cut}
@@ -28,7 +28,8 @@ use Rattle.machine.specs.declared.Answer.the-variants.{Offered}
 use Rattle.machine.specs.Boards.{siteAt, tallyAt, boardTable, boardDown, boardPool}
 use Rattle.posting.specs.Conflicts.{tableWith}
 use Rattle.machine.specs.Soundness.{isSound}
-use Rattle.steps.specs.Causes.{Cause, firstCause, siteCauses, offerCauses, cutCauses}
+use Rattle.steps.specs.Causes.{Cause}
+use Rattle.steps.specs.CauseLists.{firstCause, siteCauses, offerCauses, cutCauses}
 use Rattle.machine.specs.Calls.{judged, carriedOut, crashesSpent, offering, ordering, crashing}
 use Rattle.machine.specs.ByMask.{refusing, taken}
 use Rattle.machine.proofs.Causes.{Numbered, unsound, stops, goes-on, passes, one-cause, one-applies, one-passes}

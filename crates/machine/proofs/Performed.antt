@@ -11,27 +11,27 @@ use lib.Dec.{eqb, ltb, leb}
 use lib.ListN.{length, getD, set}
 use lib.Count.{ones}
 use borrow.Author.Tests.{eq-eqb, ne-eqb, lt-ltb, le-ltb, le-leb, lt-leb, leb-true, leb-false}
-use Rattle.sets.specs.Truth.{test}
+use Rattle.sets.proofs.Truth.{test}
 use Rattle.sets.specs.declared.Set.{Set}
-use Rattle.sets.specs.WordLaws.{member-below}
+use Rattle.sets.proofs.WordLaws.{member-below}
 use Rattle.sets.specs.Sets.{words, capacity, has, without}
 use Rattle.posting.specs.declared.Posting.{Posting}
 use Rattle.posting.specs.Kinds.{fieldsOk}
-use Rattle.posting.specs.KindLaws.{Fields, fields, row-kind}
+use Rattle.posting.proofs.KindLaws.{Fields, fields, row-kind}
 use Rattle.posting.specs.Records.{append}
 use Rattle.masks.specs.SiteMasks.{everySite, withSite}
 use Rattle.site.specs.declared.Setup.{Setup}
 use Rattle.site.specs.declared.Site.{Site}
 use Rattle.site.specs.Sites.{sites, plus}
 use Rattle.site.specs.ByMask.{offerByMask}
-use Rattle.site.specs.ByMaskLaws.{only-site}
+use Rattle.site.proofs.ByMaskLaws.{only-site}
 use Rattle.flight.specs.Flights.{wordsFrom}
-use Rattle.flight.specs.CarriedLaws.{word-from}
+use Rattle.flight.proofs.CarriedLaws.{word-from}
 use Rattle.steps.specs.declared.Cut.{Cut}
 use Rattle.steps.specs.declared.Cut.the-variants.{Whole, After}
 use Rattle.steps.specs.declared.Call.{Call}
 use Rattle.steps.specs.declared.Call.the-variants.{Offer, Receive, Order, Read, Crash}
-use Rattle.steps.specs.Causes.{firstCause, offerCauses}
+use Rattle.steps.specs.CauseLists.{firstCause, offerCauses}
 use Rattle.arrays.specs.Layout.{poolSlot, countAt, loggedAt, placeAt, downAt, logAt}
 use Rattle.arrays.specs.Arrays.{Arrays, withSets, withBytes, slotSet, storing, hasIn, dropping, byte, marked}
 use Rattle.arrays.proofs.Slots.{slot-long, has-slot, remove-long, dropping-is}

@@ -20,17 +20,18 @@ use Rattle.site.specs.Sites.{sites, noTally, plus, siteDelivered}
 use Rattle.site.specs.Sends.{FIRST, SECOND, THIRD, Step}
 use Rattle.site.specs.Steps.{ownerOf, onFirst, onSecond, onThird, onDeliver, onEntry}
 use Rattle.site.specs.ByMask.{sendOf, sendsOf, stepOf, readSite, deliveringEntry, firstByMask, secondByMask, thirdByMask, deliverByMask}
-use Rattle.site.specs.ByMaskLaws.{only-site, first-is, second-is, third-is, deliver-is, delivers-is, entry-is, entry-delivers-is}
+use Rattle.site.proofs.ByMaskLaws.{only-site, first-is, second-is, third-is, deliver-is, delivers-is, entry-is, entry-delivers-is}
 use Rattle.site.proofs.Firsts.{mask-length, first-fits, first-take}
 use Rattle.site.proofs.Fits as fits
-use Rattle.flight.specs.Flights.{goodTo, carriedBy, sendingAll, flightOf, sendingTo, goodSent, setSent, sendingMask}
+use Rattle.flight.specs.Flights.{goodTo, carriedBy, sendingAll, flightOf, sendingTo}
+use Rattle.flight.specs.ByMask.{goodSent, setSent, sendingMask}
 use Rattle.machine.specs.declared.Board.{Board}
 use Rattle.steps.specs.declared.Cut.{Cut}
 use Rattle.steps.specs.declared.Cut.the-variants.{Whole, After}
 use Rattle.machine.specs.Boards.{siteAt, tallyAt, entryAt, boardDown}
 use Rattle.machine.specs.Calls.{carriedOut, receiptOf, pooling, entering}
-use Rattle.steps.specs.Cuts.{cutTo, sitesTo, settledTo, entryTo, downAfter}
-use Rattle.steps.specs.ByMask.{receiptByMask, settled, cutStep, enters, entered}
+use Rattle.steps.specs.Cuts.{cutTo, sitesTo, afterDeliveryTo, entryTo, downAfter}
+use Rattle.steps.specs.ByMask.{receiptByMask, afterDelivery, cutStep, enters, entered}
 use Rattle.machine.specs.ByMask.{placed}
 use Rattle.machine.proofs.Sent.{sent-mask, pool-mask, entry-mask}
 
@@ -75,7 +76,7 @@ module _ (b : Board) (p m : ℕ) (s : Stepped) where
 
   pub placed-law :
       (site : Site) (masks good carried : List ℕ) (so : Bool) (pool entry : Set) → let x = s .sends in
-      site ≡ settled s m → masks ≡ sendingTo (b .flight .masks) (x .form) m p (x .to)
+      site ≡ afterDelivery s m → masks ≡ sendingTo (b .flight .masks) (x .form) m p (x .to)
       → good ≡ goodSent (b .flight .good) (x .form) m p (x .to) (x .good)
       → carried ≡ setSent (b .flight .carried) (x .form) m p (x .to) (x .carried)
       → so ≡ enters x → pool ≡ withIf (b .pool) m so → entry ≡ entered (entryAt b m) x
@@ -101,16 +102,16 @@ part-is : (s : Stepped) (reached : ℕ) (cut : Cut) → reached ≡ sitesTo (s .
 part-is s reached Whole e = rw e refl
 part-is s reached (After j) e = rw e refl
 
-part-settled : (s : Stepped) (reached m : ℕ) (cut : Cut) → settledTo (s .site) (s .delivers) m cut ≡ settled (partTo s reached cut) m
-part-settled s reached m Whole = refl
-part-settled s reached m (After j) = refl
+part-delivered : (s : Stepped) (reached m : ℕ) (cut : Cut) → afterDeliveryTo (s .site) (s .delivers) m cut ≡ afterDelivery (partTo s reached cut) m
+part-delivered s reached m Whole = refl
+part-delivered s reached m (After j) = refl
 
 -- the board from the results of the code's calls
 module _ (b : Board) (p m : ℕ) (s : Stepped) (fit : s .sends .to < 2 ^ sites) (h : p < 7) (cut : Cut) where
   pub carried-parts :
       (reached : ℕ) (site : Site) (masks good carried : List ℕ) (so : Bool) (pool entry : Set) (down : ℕ)
       → let part = partTo s reached cut in let x = part .sends in
-      reached ≡ sitesTo (s .sends .to) cut → site ≡ settledTo (s .site) (s .delivers) m cut
+      reached ≡ sitesTo (s .sends .to) cut → site ≡ afterDeliveryTo (s .site) (s .delivers) m cut
       → masks ≡ sendingTo (b .flight .masks) (x .form) m p (x .to)
       → good ≡ goodSent (b .flight .good) (x .form) m p (x .to) (x .good)
       → carried ≡ setSent (b .flight .carried) (x .form) m p (x .to) (x .carried)
@@ -122,7 +123,7 @@ module _ (b : Board) (p m : ℕ) (s : Stepped) (fit : s .sends .to < 2 ^ sites) 
       ∙ carried-law b p m s fit h cut
     where
       parts : let part = partTo s reached cut in boardParts b p m part site masks good carried pool entry ≡ placed b p m part
-      parts = placed-law b p m (partTo s reached cut) site masks good carried so pool entry (e0 ∙ part-settled s reached m cut) e1 e2 e3 e4 e5 e6
+      parts = placed-law b p m (partTo s reached cut) site masks good carried so pool entry (e0 ∙ part-delivered s reached m cut) e1 e2 e3 e4 e5 e6
 
 -- ---- the step of a receipt
 

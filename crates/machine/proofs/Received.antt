@@ -20,7 +20,8 @@ use Rattle.steps.specs.declared.Cut.{Cut}
 use Rattle.machine.specs.declared.Outcome.{Outcome}
 use Rattle.machine.specs.Boards.{siteAt, tallyAt, entryAt, loggedAt, boardFlight}
 use Rattle.machine.specs.Soundness.{isSound}
-use Rattle.steps.specs.Causes.{Cause, firstCause, siteCauses, messageCauses, cutCauses}
+use Rattle.steps.specs.Causes.{Cause}
+use Rattle.steps.specs.CauseLists.{firstCause, siteCauses, messageCauses, cutCauses}
 use Rattle.machine.specs.Calls.{judged, carriedOut, receiptOf, receiving, reading}
 use Rattle.machine.specs.ByMask.{refusing, taken}
 use Rattle.machine.proofs.Causes.{unsound, stops, goes-on, passes, one-cause, one-applies, one-passes}

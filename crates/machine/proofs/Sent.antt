@@ -15,7 +15,7 @@ use lib.Pow.{pow-pos}
 use borrow.Author.Tests.{eq-eqb, ne-eqb, lt-ltb, le-ltb}
 use Rattle.sets.specs.declared.Set.{Set}
 use Rattle.sets.specs.Masks.{hasBit}
-use Rattle.sets.specs.MaskLaws.{has-bit-above, has-bit-or, has-bit-pow, has-bit-zero, bits-ext}
+use Rattle.sets.proofs.MaskLaws.{has-bit-above, has-bit-or, has-bit-pow, has-bit-zero, bits-ext}
 use Rattle.sets.specs.Words.{insert, insertIf}
 use Rattle.sets.specs.Sets.{ofWords, with, withIf}
 use Rattle.site.specs.declared.Sends.{Sends}
@@ -23,10 +23,11 @@ use Rattle.site.specs.Sites.{sites, noSet}
 use Rattle.site.specs.Sends.{FIRST, SECOND, THIRD, DELIVER, forms, Send, first, second, third, deliver, entry}
 use Rattle.site.specs.ByMask.{sendOf, toMask, sendsOf}
 use Rattle.flight.specs.declared.Flight.{Flight}
-use Rattle.flight.specs.Flights.{cellAt, sendingTo, sending, sendingAll, sendingMask}
-use Rattle.flight.specs.CellLaws.{bit-or-assoc}
-use Rattle.flight.specs.SendLaws.{all-append}
-use Rattle.flight.specs.BroadcastLaws.{mask-none, mask-twice, Broadcast}
+use Rattle.flight.specs.Flights.{cellAt, sendingTo, sending, sendingAll}
+use Rattle.flight.specs.ByMask.{sendingMask}
+use Rattle.flight.proofs.CellLaws.{bit-or-assoc}
+use Rattle.flight.proofs.SendLaws.{all-append}
+use Rattle.flight.proofs.BroadcastLaws.{mask-none, mask-twice, Broadcast}
 use Rattle.machine.specs.Calls.{pooling, entering}
 use Rattle.steps.specs.ByMask.{enters, entered}
 

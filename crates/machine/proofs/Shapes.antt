@@ -4,10 +4,10 @@ use Prim.Native.Nat.{ℕ, _<_}
 use mathlib.Core.Path.{_≡_}
 use lib.ListN.{length}
 use Rattle.sets.specs.Sets.{capacity, Shape}
-use Rattle.posting.specs.RecordLaws.{Places}
+use Rattle.posting.proofs.RecordLaws.{Places}
 use Rattle.site.specs.declared.Site.{Site}
 use Rattle.site.specs.Sites.{sites}
-use Rattle.flight.specs.Flights.{Shape as FlightShape}
+use Rattle.flight.specs.Shapes.{Shape as FlightShape}
 use Rattle.machine.specs.declared.Board.{Board}
 use Rattle.machine.specs.Boards.{siteAt, tallyAt, entryAt}
 

@@ -11,19 +11,19 @@ use lib.ListN.{getD}
 use lib.Pow.{pow-pos}
 use borrow.Author.Tests.{ltb-true, lt-ltb, leb-true, le-leb, eqb-true, eq-eqb}
 use Rattle.sets.specs.declared.Set.{Set}
-use Rattle.sets.specs.Truth.{test, never, not-so, and-left, and-right, and-intro, or-cases, or-left, or-right}
+use Rattle.sets.proofs.Truth.{test, never, not-so, and-left, and-right, and-intro, or-cases, or-left, or-right}
 use Rattle.sets.specs.Below.{allOf}
-use Rattle.sets.specs.BelowLaws.{all-at, all-from}
+use Rattle.sets.proofs.BelowLaws.{all-at, all-from}
 use Rattle.sets.specs.Masks.{hasBit}
-use Rattle.sets.specs.MaskLaws.{has-bit-zero, bits-ext}
+use Rattle.sets.proofs.MaskLaws.{has-bit-zero, bits-ext}
 use Rattle.sets.specs.Numbers.{listed, distinct}
-use Rattle.sets.specs.WordLaws.{member-collect, subset-member, member-subset, empty-member, member-none}
+use Rattle.sets.proofs.WordLaws.{member-collect, subset-member, member-subset, empty-member, member-none}
 use Rattle.sets.specs.Sets.{words, capacity, has, subset, isEmptySet, Shape}
 use Rattle.posting.specs.declared.Record.{Record}
 use Rattle.posting.specs.declared.Table.{Table}
 use Rattle.posting.specs.Kinds.{fieldsOk}
 use Rattle.posting.specs.Conflicts.{row, offered}
-use Rattle.posting.specs.ConflictLaws.{offered-below}
+use Rattle.posting.proofs.ConflictLaws.{offered-below}
 use Rattle.posting.specs.Records.{numbersOf}
 use Rattle.site.specs.declared.Site.{Site}
 use Rattle.site.specs.declared.Tally.{Tally}

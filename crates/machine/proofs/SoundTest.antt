@@ -1,5 +1,5 @@
 -- The test isSound says just the facts of Sound, on a board in shape.
--- Rests on Sound. Assumes nothing.
+-- Rests on Boards, Soundness, Shapes and SoundFacts, on flight. Assumes nothing.
 use Prim.Native.Nat.{ℕ, zero, suc, _+_, _*_, _/_, _%_, _^_, _<_, _≤_}
 use mathlib.Core.Path.{_≡_, refl, sym, _∙_}
 use mathlib.Core.Logic.{_⊎_, inl, inr}
@@ -13,23 +13,23 @@ use lib.ListN.{length, getD}
 use lib.Pow.{pow-pos, pow-lt}
 use borrow.Author.Tests.{ltb-true, lt-ltb, leb-true, le-leb, eqb-true, eq-eqb, ne-eqb}
 use Rattle.sets.specs.declared.Set.{Set}
-use Rattle.sets.specs.Truth.{test, never, not-so, and-left, and-right, and-intro, or-cases, or-left, or-right, not-flips}
+use Rattle.sets.proofs.Truth.{test, never, not-so, and-left, and-right, and-intro, or-cases, or-left, or-right, not-flips}
 use Rattle.sets.specs.Below.{allBelow, allOf}
-use Rattle.sets.specs.BelowLaws.{all-at, all-from}
+use Rattle.sets.proofs.BelowLaws.{all-at, all-from}
 use Rattle.sets.specs.Masks.{hasBit}
-use Rattle.sets.specs.MaskLaws.{has-bit-zero, has-bit-pow, bits-ext}
+use Rattle.sets.proofs.MaskLaws.{has-bit-zero, has-bit-pow, bits-ext}
 use Rattle.sets.specs.Numbers.{listed}
 use Rattle.sets.specs.Sets.{capacity, has, subset, Shape}
 use Rattle.posting.specs.Kinds.{fieldsOk}
 use Rattle.posting.specs.Conflicts.{row, offered}
-use Rattle.posting.specs.ConflictLaws.{offered-below, below-offered}
+use Rattle.posting.proofs.ConflictLaws.{offered-below, below-offered}
 use Rattle.posting.specs.Records.{numbersOf}
 use Rattle.site.specs.Sites.{sites}
 use Rattle.site.specs.Sends.{THIRD, forms}
 use Rattle.site.specs.Steps.{ownerOf}
 use Rattle.flight.specs.Flights.{receiversIn, cells, cellAt, carriedBy}
-use Rattle.flight.specs.CellLaws.{cell-in, cell-below}
-use Rattle.flight.specs.CarriedLaws.{set-shape-in}
+use Rattle.flight.proofs.CellLaws.{cell-in, cell-below}
+use Rattle.flight.proofs.CarriedLaws.{set-shape-in}
 use Rattle.machine.specs.declared.Board.{Board}
 use Rattle.machine.specs.Boards.{siteAt, tallyAt, entryAt}
 use Rattle.machine.specs.Soundness.{setupOk, rowOk, offeredSet, siteOk, tallyOk, cellOk, cellsOk, entryOk, isSound}

@@ -17,7 +17,7 @@ use Rattle.site.specs.Sites.{sites, siteSeen, siteStepped, siteFinished, siteGo
 use Rattle.arrays.specs.Layout.{seenOf, heldOf, steppedOf, finishedOf, gotOf, poolSlot, unionOf, entryOf, kindOf, haveOf, slots, shownSlots}
 use Rattle.arrays.specs.Arrays.{Arrays, withSets, slotSet, storing, adding}
 use Rattle.arrays.proofs.Slots.{slot-long, insert-long, slot-other, slot-same, long-stored, adding-is}
-use Rattle.views.specs.Views.{recordOf, siteOf, tallyOf, rowOf, tableOf, logOf}
+use Rattle.views.specs.Views.{recordIn, siteOf, tallyOf, rowOf, tableOf, logOf}
 use Rattle.machine.proofs.Local.{Local, localOf, Elsewhere, elsewhere-then, Long}
 
 -- ---- what is theirs, with one part changed
@@ -135,7 +135,7 @@ module _ (p m : ℕ) (hp : p < sites) (hm : m < capacity) (a : Arrays) (long : L
     here = slot-same (a .sets) slot s size (o .fits) (long .sets-long)
 
     other-site : (q : ℕ) → q < sites → q ≢ p → siteOf new q ≡ siteOf a q
-    unfolding siteOf recordOf
+    unfolding siteOf recordIn
     other-site q h n =
         rw (
           same (seenOf q) (o .site q 0 h n (omega arith)),
@@ -197,35 +197,35 @@ module _ (p m : ℕ) (hp : p < sites) (hm : m < capacity) (a : Arrays) (long : L
         (rw (own, kept poolSlot (λ e. omega arith), kept (unionOf m) (λ e. omega arith), kept (entryOf m) (λ e. omega arith)))
 
   pub store-seen : Changes p m a (withSets a (storing (a .sets) (seenOf p) s)) (λ l. localSite l (siteSeen (l .site) s))
-  unfolding siteOf recordOf
+  unfolding siteOf recordIn
   store-seen =
       let h : 0 < 5 = omega arith in
       let stay = stays 0 h in
       site-stored 0 h (λ x. siteSeen x s) (rw (here (seenOf p) (mine 0 h), stay 1 refl, stay 2 refl, stay 3 refl, stay 4 refl))
 
   pub store-held : Changes p m a (withSets a (storing (a .sets) (heldOf p) s)) (λ l. localSite l (siteHeld (l .site) s))
-  unfolding siteOf recordOf
+  unfolding siteOf recordIn
   store-held =
       let h : 1 < 5 = omega arith in
       let stay = stays 1 h in
       site-stored 1 h (λ x. siteHeld x s) (rw (here (heldOf p) (mine 1 h), stay 0 refl, stay 2 refl, stay 3 refl, stay 4 refl))
 
   pub store-stepped : Changes p m a (withSets a (storing (a .sets) (steppedOf p) s)) (λ l. localSite l (siteAdvanced (l .site) s))
-  unfolding siteOf recordOf
+  unfolding siteOf recordIn
   store-stepped =
       let h : 2 < 5 = omega arith in
       let stay = stays 2 h in
       site-stored 2 h (λ x. siteAdvanced x s) (rw (here (steppedOf p) (mine 2 h), stay 0 refl, stay 1 refl, stay 3 refl, stay 4 refl))
 
   pub store-finished : Changes p m a (withSets a (storing (a .sets) (finishedOf p) s)) (λ l. localSite l (siteFinished (l .site) s))
-  unfolding siteOf recordOf
+  unfolding siteOf recordIn
   store-finished =
       let h : 3 < 5 = omega arith in
       let stay = stays 3 h in
       site-stored 3 h (λ x. siteFinished x s) (rw (here (finishedOf p) (mine 3 h), stay 0 refl, stay 1 refl, stay 2 refl, stay 4 refl))
 
   pub store-got : Changes p m a (withSets a (storing (a .sets) (gotOf p) s)) (λ l. localSite l (siteGot (l .site) s))
-  unfolding siteOf recordOf
+  unfolding siteOf recordIn
   store-got =
       let h : 4 < 5 = omega arith in
       let stay = stays 4 h in
@@ -234,7 +234,7 @@ module _ (p m : ℕ) (hp : p < sites) (hm : m < capacity) (a : Arrays) (long : L
   -- the pool, and what is of posting m
   module _ (slot : ℕ) (o : Own p m slot) (past : 5 * sites ≤ slot) where
     site-kept : siteOf (new slot o) p ≡ siteOf a p
-    unfolding siteOf recordOf
+    unfolding siteOf recordIn
     site-kept =
         let kept : (j : ℕ) → j < 5 → slotSet (new slot o .sets) (j * sites + p) ≡ slotSet (a .sets) (j * sites + p) =
         λ j h. same slot o (j * sites + p) (λ e. omega arith) in

@@ -10,7 +10,7 @@ use lib.Dec.{ltb}
 use lib.ListN.{length, getD, set, length-set}
 use lib.Seq.{set-getD, getD-set-same, getD-set-other}
 use borrow.Author.Tests.{lt-ltb, ltb-true}
-use Rattle.sets.specs.Truth.{test}
+use Rattle.sets.proofs.Truth.{test}
 use Rattle.sets.specs.declared.Set.{Set}
 use Rattle.sets.specs.Sets.{words, capacity}
 use Rattle.posting.specs.declared.Posting.{Posting}
@@ -28,7 +28,7 @@ use Rattle.arrays.specs.Arrays.{Arrays, withSets, withCounts, withBytes, slotSe
 use Rattle.arrays.proofs.Slots.{part-ext, part-set}
 use Rattle.flat.specs.Flat.{entered, logging}
 use Rattle.machine.specs.Boards.{siteAt, tallyAt, entryAt, boardDown, boardPool, boardTable}
-use Rattle.views.specs.Views.{recordOf, siteOf, tallyOf, rowOf, tableOf, logOf}
+use Rattle.views.specs.Views.{recordIn, siteOf, tallyOf, rowOf, tableOf, logOf}
 use Rattle.machine.specs.View.{view, Right}
 use Rattle.machine.proofs.Local.{Local, right-long, right-local, site-at, tally-at, entry-at, view-local, shownAfter, table-changed, site-record, indexed-same}
 use Rattle.machine.proofs.Stores.{Changes, localDown, localPool, store-pool}
@@ -90,7 +90,7 @@ module _ (a : Arrays) (k v : ℕ) (listed : Listed k) where
   part-after i h = part-ext (set (a .bytes) k v) (a .bytes) i capacity (λ q b c. left q (λ e. omega (arith, listed .1)))
 
   pub listed-site : (q : ℕ) → siteOf put q ≡ siteOf a q
-  unfolding siteOf recordOf
+  unfolding siteOf recordIn
   listed-site q = rw (part-after (heardAt q 0) (omega arith), part-after (goodAt q 0) (omega arith), part-after (recordAt q 0) (omega arith))
 
   apart : (q : ℕ) → talliedAt 0 ≤ q → q < logAt 0 → (k < talliedAt 0) ⊎ (logAt 0 ≤ k) → q ≢ k
@@ -120,7 +120,7 @@ module _ (setup : Setup) (a : Arrays) (ok : Right a) (m : ℕ) (hm : m < capacit
   count-left i n = getD-set-other (a .counts) loggedAt i (entries + 1) 0 n
 
   counted-site : (q : ℕ) → siteOf counted q ≡ siteOf a q
-  unfolding siteOf recordOf
+  unfolding siteOf recordIn
   counted-site q = rw (count-left (placeAt q) (λ e. omega arith), count-left (deliveredAt q) (λ e. omega arith))
 
   module _ (room : entries < capacity) where
@@ -133,7 +133,7 @@ module _ (setup : Setup) (a : Arrays) (ok : Right a) (m : ℕ) (hm : m < capacit
     log-site : (q : ℕ) → siteOf longer q ≡ siteOf a q
     log-site q = listed-site counted at m of-log q ∙ counted-site q
 
-    log-record : (q : ℕ) → recordOf longer q ≡ recordOf a q
+    log-record : (q : ℕ) → recordIn longer q ≡ recordIn a q
     log-record q = sym (site-record longer q) ∙ ap (λ (s : Site). s .delivered) (log-site q) ∙ site-record a q
 
     log-table : tableOf longer ≡ tableOf a
@@ -252,10 +252,10 @@ module _ (setup : Setup) (a : Arrays) (ok : Right a) (p : Posting) where
         ∙ listed-site one (kindAt count) (p .kind) of-kind q ∙ listed-site a (ownerAt count) (p .owner) of-owner q
 
     row-site : (q : ℕ) → siteOf more q ≡ siteOf a q
-    unfolding siteOf recordOf entered
+    unfolding siteOf recordIn entered
     row-site q = rw (row-count-left (placeAt q) (λ e. omega arith), row-count-left (deliveredAt q) (λ e. omega arith)) (four-site q)
 
-    pub row-record : (q : ℕ) → recordOf more q ≡ recordOf a q
+    pub row-record : (q : ℕ) → recordIn more q ≡ recordIn a q
     row-record q = sym (site-record more q) ∙ ap (λ (s : Site). s .delivered) (row-site q) ∙ site-record a q
 
     row-tally : (q : ℕ) → q < capacity → tallyOf more q ≡ tallyOf a q

@@ -25,17 +25,7 @@ use Rattle.machine.specs.declared.Board.{Board}
 -- nothing offered, nothing sent, all sites up
 abbrev pub freshBoard : Setup → Board
 freshBoard setup =
-    record {
-      setup = setup;
-      down = 0;
-      table = emptyTable;
-      sites = replicate sites blankSite;
-      tallies = replicate capacity blankTally;
-      flight = emptyFlight;
-      pool = emptySet;
-      entries = replicate capacity emptySet;
-      log = emptyRecord;
-    }
+    record { setup = setup; down = 0; table = emptyTable; sites = replicate sites blankSite; tallies = replicate capacity blankTally; flight = emptyFlight; pool = emptySet; entries = replicate capacity emptySet; log = emptyRecord }
 
 -- the blank board, all zeros
 abbrev pub blankBoard : Board
@@ -68,71 +58,21 @@ isUp b p = ltb p (b .setup .n) && not (isDown b p)
 
 abbrev pub boardTable : Board → Table → Board
 boardTable b table =
-    record {
-      setup = b .setup;
-      down = b .down;
-      table = table;
-      sites = b .sites;
-      tallies = b .tallies;
-      flight = b .flight;
-      pool = b .pool;
-      entries = b .entries;
-      log = b .log;
-    }
+    record { setup = b .setup; down = b .down; table = table; sites = b .sites; tallies = b .tallies; flight = b .flight; pool = b .pool; entries = b .entries; log = b .log }
 
 abbrev pub boardFlight : Board → Flight → Board
 boardFlight b flight =
-    record {
-      setup = b .setup;
-      down = b .down;
-      table = b .table;
-      sites = b .sites;
-      tallies = b .tallies;
-      flight = flight;
-      pool = b .pool;
-      entries = b .entries;
-      log = b .log;
-    }
+    record { setup = b .setup; down = b .down; table = b .table; sites = b .sites; tallies = b .tallies; flight = flight; pool = b .pool; entries = b .entries; log = b .log }
 
 -- what belongs to site p, and its tally of m
 abbrev pub boardSite : Board → ℕ → Site → ℕ → Tally → Board
 boardSite b p site m tally =
-    record {
-      setup = b .setup;
-      down = b .down;
-      table = b .table;
-      sites = set (b .sites) p site;
-      tallies = set (b .tallies) m tally;
-      flight = b .flight;
-      pool = b .pool;
-      entries = b .entries;
-      log = b .log;
-    }
+    record { setup = b .setup; down = b .down; table = b .table; sites = set (b .sites) p site; tallies = set (b .tallies) m tally; flight = b .flight; pool = b .pool; entries = b .entries; log = b .log }
 
 abbrev pub boardDown : Board → ℕ → Board
 boardDown b down =
-    record {
-      setup = b .setup;
-      down = down;
-      table = b .table;
-      sites = b .sites;
-      tallies = b .tallies;
-      flight = b .flight;
-      pool = b .pool;
-      entries = b .entries;
-      log = b .log;
-    }
+    record { setup = b .setup; down = down; table = b .table; sites = b .sites; tallies = b .tallies; flight = b .flight; pool = b .pool; entries = b .entries; log = b .log }
 
 abbrev pub boardPool : Board → Set → List Set → Record → Board
 boardPool b pool entries log =
-    record {
-      setup = b .setup;
-      down = b .down;
-      table = b .table;
-      sites = b .sites;
-      tallies = b .tallies;
-      flight = b .flight;
-      pool = pool;
-      entries = entries;
-      log = log;
-    }
+    record { setup = b .setup; down = b .down; table = b .table; sites = b .sites; tallies = b .tallies; flight = b .flight; pool = pool; entries = entries; log = log }

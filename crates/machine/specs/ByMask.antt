@@ -1,5 +1,5 @@
 -- What the code of a call gives in parts: the number of the refusal; a step with what it sends as a mask of receivers; the board that it leaves.
--- Proof machinery: proofs/ ties each to Calls. Rests on Calls, on flight, site, posting and sets.
+-- Proof machinery: proofs/ ties each to Calls. Rests on Boards and Soundness, on steps and flight.
 use Prim.Native.Nat.{ℕ}
 use mathlib.Core.Bool.{cond, not}
 use lib.Dec.{eqb}
@@ -10,8 +10,8 @@ use Rattle.posting.specs.Kinds.{symmetric, hasFixedPairs}
 use Rattle.site.specs.declared.Setup.{Setup}
 use Rattle.site.specs.declared.Stepped.{Stepped}
 use Rattle.site.specs.Sites.{sites}
-use Rattle.flight.specs.Flights.{sendingMask}
-use Rattle.steps.specs.ByMask.{settled, enters, entered}
+use Rattle.flight.specs.ByMask.{sendingMask}
+use Rattle.steps.specs.ByMask.{afterDelivery, enters, entered}
 use Rattle.machine.specs.declared.Board.{Board}
 use Rattle.machine.specs.declared.Outcome.{Outcome}
 use Rattle.machine.specs.declared.Answer.{Answer}
@@ -52,7 +52,7 @@ placed b p m s =
       setup = b .setup;
       down = b .down;
       table = b .table;
-      sites = set (b .sites) p (settled s m);
+      sites = set (b .sites) p (afterDelivery s m);
       tallies = set (b .tallies) m (s .tally);
       flight = sendingMask (b .flight) p (s .sends .form) m (s .sends .to) (s .sends .good) (s .sends .carried);
       pool = withIf (b .pool) m (enters (s .sends));

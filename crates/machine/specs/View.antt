@@ -12,7 +12,7 @@ use Rattle.flight.specs.Flights.{cells, flightOf}
 use Rattle.arrays.specs.Layout.{poolSlot, entryOf, haveOf, setsLong, countsLong, downAt, bytesLong}
 use Rattle.arrays.specs.Arrays.{Arrays, slotSet, hasIn, byte}
 use Rattle.index.specs.Index.{Indexed}
-use Rattle.views.specs.Views.{recordOf, siteOf, tallyOf, tableOf, logOf}
+use Rattle.views.specs.Views.{recordIn, siteOf, tallyOf, tableOf, logOf}
 use Rattle.machine.specs.declared.Board.{Board}
 
 -- the board
@@ -38,4 +38,4 @@ pub record Right (a : Arrays) : Type 0 where
   pub amounts-long : length (a .amounts) ≡ capacity
   pub masks-long : length (a .masks) ≡ cells
   pub indexed : Indexed (a .sets) (tableOf a)
-  pub have : (p x : ℕ) → p < sites → x < capacity → hasIn (a .sets) (haveOf p) x ≡ contains (recordOf a p) x
+  pub have : (p x : ℕ) → p < sites → x < capacity → hasIn (a .sets) (haveOf p) x ≡ contains (recordIn a p) x

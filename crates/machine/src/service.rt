@@ -1,5 +1,5 @@
 // The service: a board takes any call with any arguments, by value. An unsound board is refused first (6); a sound one is laid out on arrays,
-// takes the call in place, and is taken off them. Rests on sound, laying and taking, on events for the calls.
+// takes the call in place, and is taken off them. Rests on laying and taking, on events.
 
 ghost use mathlib.Core.Path.{_≡_};
 ghost use mathlib.Core.Bool.{true};

@@ -7,13 +7,13 @@ ghost use Rattle.sets.specs.Masks.{hasBit};
 ghost use Rattle.masks.specs.SiteMasks.{room, onlySite, everySite, withSite, withSiteIf, nextSite, firstSites, relayTo};
 
 // How many sites a mask has room for, as many as a board.
-const LIMIT: u8 = 7;
+pub const SITES: u8 = 7;
 
 // The mask of site p alone; what is no site gives no site.
 pub fn only_site(p: u8) -> u8
     ensures { λ r. ⌜ r ≡ onlySite p ⌝ }
 {
-    if LIMIT <= p {
+    if SITES <= p {
         return 0;
     }
     1 << p
@@ -23,7 +23,7 @@ pub fn only_site(p: u8) -> u8
 pub fn every_site(n: u8) -> u8
     ensures { λ r. ⌜ r ≡ everySite n ⌝ }
 {
-    if LIMIT <= n {
+    if SITES <= n {
         return 127;
     }
     (1 << n) - 1
@@ -85,7 +85,7 @@ pub fn first_sites(mask: u8, j: usize) -> u8
     ensures { λ r. ⌜ r ≡ firstSites room mask j ⌝ }
 {
     let mut low: u8 = 0;
-    for p in 0..LIMIT {
+    for p in 0..SITES {
         low = next_site(low, mask, p, j);
     }
     low

@@ -4,11 +4,11 @@ use Prim.Native.Nat.{ℕ, _+_, _/_, _%_, _<_}
 use mathlib.Core.Path.{_≡_, refl, sym, ap, _∙_}
 use mathlib.Core.Bool.{Bool, true, false, not, Bool·beq}
 use native.Mathlib.Numerals.{add-one}
-use Rattle.sets.specs.Truth.{and-intro}
+use Rattle.sets.proofs.Truth.{and-intro}
 use Rattle.sets.specs.Below.{allBelow}
-use Rattle.sets.specs.BelowLaws.{all-fails}
+use Rattle.sets.proofs.BelowLaws.{all-fails}
 use Rattle.posting.specs.Kinds.{allPairs}
-use Rattle.posting.specs.KindLaws.{pairs-entries}
+use Rattle.posting.proofs.KindLaws.{pairs-entries}
 
 pub is-false : (b : Bool) → Bool·beq b false ≡ not b
 is-false true = refl

@@ -1,8 +1,5 @@
--- Postings, conflicts and records: the definitions are Kinds, Conflicts and Records; the files named Laws hold laws.
+-- Postings, conflicts and records: Kinds, Conflicts and Records.
 -- Rests on sets.
 pub mod Kinds
-pub mod KindLaws
 pub mod Conflicts
-pub mod ConflictLaws
 pub mod Records
-pub mod RecordLaws

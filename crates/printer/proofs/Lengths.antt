@@ -9,15 +9,15 @@ use native.Mathlib.Omega.{arith}
 use lib.Dec.{eqb, ltb}
 use lib.ListN.{length, getD, take, length-append}
 use borrow.Author.Tests.{ltb-true, ltb-false}
-use Rattle.sets.specs.Truth.{test}
+use Rattle.sets.proofs.Truth.{test}
 use Rattle.sets.specs.Masks.{hasBit}
 use Rattle.sets.specs.Sets.{capacity}
 use Rattle.posting.specs.Records.{numbersOf}
 use Rattle.books.specs.declared.Records.{Records}
-use Rattle.books.specs.Books.{recordOf}
+use Rattle.books.specs.Books.{recordNo}
 use Rattle.printer.specs.declared.Ended.{Ended}
 use Rattle.printer.specs.Output.{lastDigit, decimal, okWord, noWord, upWord, downWord, newline, eventLine, eventLines, items, siteLine, siteLines, logLine, quietLine, boardLines, printedOf}
-use Rattle.printer.specs.Writing.{lastPlace, mostEvents, longestRun}
+use Rattle.printer.specs.Puts.{lastPlace, mostEvents, longestRun}
 use Rattle.printer.proofs.Texts.{decimal-last, decimal-more}
 
 -- every number of a list has at most three digits
@@ -115,12 +115,12 @@ site-length p down l h r =
       r .few,
     )
 
-sites-length : (down : ℕ) (records : Records) (n : ℕ) → n < 1_000 → ((p : ℕ) → p < n → Recorded (numbersOf (recordOf records p)))
+sites-length : (down : ℕ) (records : Records) (n : ℕ) → n < 1_000 → ((p : ℕ) → p < n → Recorded (numbersOf (recordNo records p)))
     → length (siteLines down records n) ≤ 267 * n
 unfolding siteLines
 sites-length down records zero h r = omega arith
 sites-length down records (suc p) h r =
-    let l = numbersOf (recordOf records p) in
+    let l = numbersOf (recordNo records p) in
     omega (
       arith,
       length-append (siteLines down records p) (siteLine p (hasBit down p) l),
@@ -143,7 +143,7 @@ pub record Shown (refusals : List ℕ) (e : Ended) : Type 0 where
   pub events : length refusals < mostEvents
   pub refused : Small refusals
   pub sites : e .n < 1_000
-  pub records : (p : ℕ) → p < e .n → Recorded (numbersOf (recordOf (e .records) p))
+  pub records : (p : ℕ) → p < e .n → Recorded (numbersOf (recordNo (e .records) p))
   pub log : Recorded (numbersOf (e .log))
 
 pub printed-length : (refusals : List ℕ) (e : Ended) → Shown refusals e → length (printedOf refusals e) ≤ longestRun (length refusals) (e .n)

@@ -1,5 +1,5 @@
 -- What the proofs of printer share: bytes put into a slice, the texts, their lengths, and what the checker tells of a parameter.
--- Assumes nothing.
+-- Rests on the specs. Assumes nothing.
 pub mod Writing
 pub mod Texts
 pub mod Lengths

@@ -10,7 +10,7 @@ use lib.Dec.{ltb}
 use lib.ListN.{length, getD, take, length-take}
 use lib.Seq.{take-suc}
 use borrow.Author.Tests.{lt-ltb, le-ltb, ltb-false}
-use Rattle.sets.specs.Truth.{test}
+use Rattle.sets.proofs.Truth.{test}
 use Rattle.printer.specs.Output.{lastDigit, digits, decimal, eventLine, eventLines, items, space}
 
 -- ---- numbers

@@ -15,10 +15,10 @@ use Rattle.posting.specs.declared.Record.{Record}
 use Rattle.posting.specs.Records.{numbersOf}
 use Rattle.posting.proofs.Record as record-type
 use Rattle.books.specs.declared.Records.{Records}
-use Rattle.books.specs.Books.{recordOf, noRecord}
+use Rattle.books.specs.Books.{recordNo, noRecord}
 use Rattle.books.proofs.Records as records-type
 use Rattle.printer.specs.declared.Ended.{Ended}
-use Rattle.printer.specs.Writing.{mostEvents}
+use Rattle.printer.specs.Puts.{mostEvents}
 use Rattle.printer.proofs.Ended as ended-type
 use Rattle.printer.proofs.Lengths.{Small, Recorded, Shown, small-take}
 
@@ -47,7 +47,7 @@ is-record r vs g =
       small = small-take (r .count) (r .numbers) (λ i h. is-small capacity (r .numbers) _ a i);
     }
 
-is-records : (records : Records) (vs : List Val) → Is records-type.the-row records vs → (p : ℕ) → Recorded (numbersOf (recordOf records p))
+is-records : (records : Records) (vs : List Val) → Is records-type.the-row records vs → (p : ℕ) → Recorded (numbersOf (recordNo records p))
 is-records records vs g =
     each-at record-type.the-field (λ r. Recorded (numbersOf r)) (λ r v h. is-record r _ h) noRecord no-record (records .sites) _ (g .1 .1 .0 .1 .1)
 

@@ -11,10 +11,11 @@ use lib.Dec.{ltb, leb}
 use lib.ListN.{length, take, drop, set, length-set, length-append}
 use lib.Seq.{sets, sets-eq, take-append-seam}
 use borrow.Author.Tests.{lt-ltb, ltb-true, ltb-false, leb-true, leb-false, le-leb, lt-leb}
-use Rattle.sets.specs.Truth.{test}
+use Rattle.sets.proofs.Truth.{test}
 use Rattle.printer.specs.declared.Printed.{Printed}
 use Rattle.printer.specs.declared.Printed.the-variants.{Written, Short}
-use Rattle.printer.specs.Writing.{lastPlace, next, after, putting, Put, slicePrinted, writtenOf, answerPrinted}
+use Rattle.printer.specs.Writing.{slicePrinted, writtenOf, answerPrinted}
+use Rattle.printer.specs.Puts.{lastPlace, next, after, putting, Put}
 
 -- ---- one text after another
 

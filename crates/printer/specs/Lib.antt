@@ -1,4 +1,5 @@
--- Output: the lines. Writing: bytes in a lent slice.
+-- Output: the lines. Writing: a text in a lent slice. Puts: what the writers of lines promise.
 -- Rests on books, posting and sets.
 pub mod Output
 pub mod Writing
+pub mod Puts

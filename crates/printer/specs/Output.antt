@@ -7,7 +7,7 @@ use lib.Dec.{eqb, ltb}
 use Rattle.sets.specs.Masks.{hasBit}
 use Rattle.posting.specs.Records.{numbersOf}
 use Rattle.books.specs.declared.Records.{Records}
-use Rattle.books.specs.Books.{recordOf}
+use Rattle.books.specs.Books.{recordNo}
 use Rattle.printer.specs.declared.Ended.{Ended}
 
 -- ---- numbers
@@ -90,7 +90,7 @@ siteLine p down delivered = siteWord ++ (decimal p ++ (cond down downWord upWord
 -- the lines of the first n sites, of which some are down, with their records
 unfoldable pub siteLines : ℕ → Records → ℕ → List ℕ
 siteLines down records zero = []
-siteLines down records (suc p) = siteLines down records p ++ siteLine p (hasBit down p) (numbersOf (recordOf records p))
+siteLines down records (suc p) = siteLines down records p ++ siteLine p (hasBit down p) (numbersOf (recordNo records p))
 
 -- L: the log's postings
 unfoldable pub logLine : List ℕ → List ℕ

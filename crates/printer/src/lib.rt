@@ -1,5 +1,5 @@
 // What program `board` prints, written into a lent slice.
-// Rests on site, books, posting and sets. Document 01, "Program `board`", gives the format.
+// Rests on books. Document 01, "Program `board`", gives the format.
 use books::Records;
 use posting::Record;
 

@@ -1,5 +1,5 @@
 // What `board` prints, written into a lent slice: the lines of a finished run, or the line of a refusal.
-// Rests on site for masks, posting for records. A place past the slice is counted and nothing is put there.
+// Rests on masks for sites, on books and posting for records, on sets. A place past the slice is counted and nothing is put there.
 ghost use Prim.Native.Nat.{_+_, _/_, _<_, _≤_};
 ghost use mathlib.Core.Path.{_≡_};
 ghost use mathlib.Core.Bool.{cond};
@@ -7,9 +7,10 @@ ghost use mathlib.Core.List.{[], _∷_, _++_};
 ghost use lib.Dec.{eqb, leb};
 ghost use lib.ListN.{length};
 ghost use Rattle.posting.specs.Records.{numbersOf};
-ghost use Rattle.books.specs.Books.{recordOf};
+ghost use Rattle.books.specs.Books.{recordNo};
 ghost use Rattle.printer.specs.Output.{lastDigit, decimal, eventLine, eventLines, items, siteLine, siteLines, logLine, quietLine, boardLines, printedOf, refusedLine, space, upWord, downWord, okWord, noWord, newline};
-ghost use Rattle.printer.specs.Writing.{Put, slicePrinted, writtenOf, answerPrinted, surelyFits};
+ghost use Rattle.printer.specs.Writing.{slicePrinted, writtenOf, answerPrinted};
+ghost use Rattle.printer.specs.Puts.{Put, surelyFits};
 use crate::Ended;
 use crate::Printed;
 use books::Records;
@@ -17,11 +18,12 @@ use books::SITES;
 use masks::has_site;
 use posting::Record;
 use sets::POSTINGS;
+use sets::wide;
 
 // The largest place.
 const LAST: usize = 18_446_744_073_709_551_615;
 
-const NEWLINE: u8 = 10;
+pub const NEWLINE: u8 = 10;
 
 // Below so many events, an event's number has four digits at most.
 const MOST_EVENTS: usize = 10_000;
@@ -99,12 +101,6 @@ pub fn put_text(text: &[u8], at: usize, out: &mut [u8]) -> usize
         place = put(text[i], place, out);
     }
     place
-}
-
-pub fn wide(x: u8) -> usize
-    ensures { λ r. ⌜ r ≡ x ⌝ }
-{
-    x as usize
 }
 
 fn last_digit(x: usize) -> u8
@@ -283,7 +279,7 @@ fn site_line(p: u8, down: bool, delivered: Record, at: usize, out: &mut [u8]) ->
 
 // The record of site p; of what is no site, an empty one.
 fn record_of(records: Records, p: usize) -> Record
-    ensures { λ r. ⌜ numbersOf r ≡ numbersOf (recordOf records p) ⌝ }
+    ensures { λ r. ⌜ numbersOf r ≡ numbersOf (recordNo records p) ⌝ }
 {
     if SITES <= p {
         return Record {

@@ -1,5 +1,5 @@
 -- Each refusal with its neighbours in the order: the definitions compute to what the table says.
--- Assumes nothing.
+-- Rests on Refusals, on cases. Assumes nothing.
 use mathlib.Core.Path.{refl}
 use Rattle.cases.specs.Trials.{results, Hold}
 use Rattle.cases.specs.Boards.{m9End, busy, tradeSent, toPool, toDeliver, rateDelivers}

@@ -9,10 +9,10 @@ use native.Mathlib.Omega.{arith}
 use lib.Dec.{eqb, ltb}
 use lib.ListN.{length, getD, drop, length-take, length-append}
 use borrow.Author.Tests.{ltb-true, eqb-true}
-use Rattle.sets.specs.Truth.{test, and-left, and-right}
+use Rattle.sets.proofs.Truth.{test, and-left, and-right}
 use Rattle.posting.specs.declared.Record.{Record}
 use Rattle.posting.specs.declared.Table.{Table}
-use Rattle.posting.specs.ConflictLaws.{offered-below}
+use Rattle.posting.proofs.ConflictLaws.{offered-below}
 use Rattle.posting.specs.Records.{numbersOf}
 use Rattle.books.proofs.Lists.{length-tabulate}
 use Rattle.steps.specs.Causes.{Cause}

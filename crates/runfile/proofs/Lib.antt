@@ -1,5 +1,5 @@
 -- What the proofs of runfile share, and the evaluated files.
--- Assumes nothing.
+-- Rests on the specs. Assumes nothing.
 pub mod Events
 pub mod Runs
 pub mod Programs

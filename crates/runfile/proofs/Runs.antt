@@ -212,16 +212,16 @@ module _ (setup : Setup) (input numbers : List ℕ) (count : ℕ) (all : count �
 -- of a board at work, from its records and its log
 pub ended-shown :
     (setup : Setup) (a : Arrays) (quiet : Bool) (n down : ℕ) (l : List Record) (log : Record) → n ≡ setup .n → down ≡ byte (a .bytes) downAt
-    → l ≡ tabulate sites (view-of.recordOf a) → log ≡ logOf a
+    → l ≡ tabulate sites (view-of.recordIn a) → log ≡ logOf a
     → record { n = n; down = down; records = record { sites = l }; log = log; quiet = quiet } ≡ endedOn (view setup a) quiet
 unfolding endedOn view
 ended-shown setup a quiet n down l log e0 e1 e2 e3 =
     rw (e0, e1, e2, e3)
     (ap (λ (x : List Record). record { n = setup .n; down = byte (a .bytes) downAt; records = record { sites = x }; log = logOf a; quiet = quiet })
-    (sym (table-same sites (view-of.recordOf a) (λ p. siteAt (view setup a) p .delivered)
+    (sym (table-same sites (view-of.recordIn a) (λ p. siteAt (view setup a) p .delivered)
     (λ p h. ap (λ (s : Site). s .delivered) (site-at setup a p h) ∙ site-record a p))))
 
 -- the record shown of a site is the site's
-pub shown-record : (b : Board) (quiet : Bool) (p : ℕ) → p < sites → numbersOf (of-books.recordOf (endedOn b quiet .records) p) ≡ recordOf b p
+pub shown-record : (b : Board) (quiet : Bool) (p : ℕ) → p < sites → numbersOf (of-books.recordNo (endedOn b quiet .records) p) ≡ recordOf b p
 unfolding endedOn
 shown-record b quiet p h = ap numbersOf (getD-tabulate sites (λ s. siteAt b s .delivered) noRecord p h)

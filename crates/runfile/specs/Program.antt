@@ -1,5 +1,5 @@
 -- What `board` prints for an input: the lines of the run that the file stands for, or the one line of a refusal.
--- Rests on decoder's RunFile, on printer's Output, and on machine for the run (document 01, "Program `board`").
+-- Rests on machine, decoder and printer.
 use Prim.Native.Nat.{ℕ}
 use mathlib.Core.Path.{_≡_}
 use mathlib.Core.Bool.{Bool, true, cond}

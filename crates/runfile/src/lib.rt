@@ -1,5 +1,5 @@
 // A run file run and printed, and what is shown of the board that the run ends on.
-// Rests on decoder for the file, on printer for what is printed, on machine and events, books, posting and sets.
+// Rests on whole_board and printer.
 ghost use Prim.Native.Nat.{ℕ};
 ghost use mathlib.Core.Path.{_≡_};
 ghost use mathlib.Core.List.{List};
@@ -11,9 +11,10 @@ use arrays::BYTES;
 use arrays::COUNTS;
 use arrays::DOWN;
 use printer::Ended;
-use shown::figures::records_of;
 use views::log_of;
+use whole_board::figures::records_of;
 
+pub mod begin;
 pub mod event;
 pub mod run;
 

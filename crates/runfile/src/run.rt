@@ -1,5 +1,5 @@
 // A run file run and printed: from the board of its start, each event is taken by the board that the one before it left.
-// Rests on decoder for the file, on printer for what is printed, on events for the calls, in place on the arrays of a board at work.
+// Rests on begin and event, on whole_board, decoder and printer.
 ghost use Prim.Native.Nat.{_≤_};
 ghost use mathlib.Core.Path.{_≡_};
 ghost use mathlib.Core.List.{_++_};
@@ -13,6 +13,7 @@ ghost use Rattle.decoder.specs.RunFile.{eventLimit, eventCount, callsOf};
 ghost use Rattle.runfile.specs.Program.{StaysSound, refusals, printedRun, printed};
 ghost use Rattle.runfile.specs.Parts.{callsFrom};
 ghost use Rattle.printer.specs.Writing.{slicePrinted, writtenOf, answerPrinted};
+use crate::begin::begin;
 use crate::ended_on;
 use crate::event::perform_at;
 use arrays::BYTES;
@@ -20,19 +21,16 @@ use arrays::COUNTS;
 use arrays::SETS;
 use decoder::file::EVENTS;
 use decoder::file::event_count;
-use decoder::file::setup_of;
-use decoder::file::well_formed;
 use flight::LOADS;
 use flight::MASKS;
 use flight::PAIRS;
 use machine::Answer;
-use opening::start_refusal;
 use printer::Printed;
 use printer::print::print_refused;
 use printer::print::print_run;
 use sets::POSTINGS;
-use shown::quiet::is_quiet_at;
 use site::Setup;
+use whole_board::quiet::is_quiet_at;
 
 // The number of a refusal; 0 of what is accepted.
 pub fn refusal_of(answer: Answer) -> u8
@@ -129,13 +127,9 @@ pub fn run_file(input: &[u8], out: &mut [u8]) -> Printed
     ensures { λ _. ⌜ now (out .exit) ≡ slicePrinted (printed (now (input .entry))) (now (out .entry)) ⌝ }
     ensures { λ r. ⌜ writtenOf r ≡ writtenOf (answerPrinted (printed (now (input .entry))) (now (out .entry))) ⌝ }
 {
-    if well_formed(input) {
-        let setup = setup_of(input);
-        let refusal = start_refusal(setup.n, setup.f, setup.matrix);
-        if refusal != 0 {
-            return print_refused(refusal, out);
-        }
-        return run_from(input, setup, out);
+    let begun = begin(input);
+    if begun.why != 0 {
+        return print_refused(begun.why, out);
     }
-    print_refused(1, out)
+    run_from(input, begun.setup, out)
 }

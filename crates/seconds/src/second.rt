@@ -1,5 +1,5 @@
 // SECOND m received: heard; at the (n - f)th the site steps, and THIRD goes to m's owner. A late one is consumed without effect.
-// Rests on arrays and index, on site for late and majority, on steps for the cut.
+// Rests on flat.
 ghost use Prim.Native.Nat.{ℕ, _<_};
 ghost use mathlib.Core.Path.{_≡_};
 ghost use mathlib.Core.List.{List};

@@ -11,7 +11,7 @@ use lib.ListN.{length, set, take, drop}
 use lib.Bits.{bitAnd}
 use lib.Seq.{drop-cons, take-suc, set-at, getD-at, length-take-le, take-all, drop-length}
 use Rattle.sets.specs.Words.{word, wordwise, isSubset, isEmpty}
-use Rattle.sets.specs.WordLaws.{word-wordwise, length-wordwise}
+use Rattle.sets.proofs.WordLaws.{word-wordwise, length-wordwise}
 
 -- the first i words combined
 abbrev pub firstWords : (ℕ → ℕ → ℕ) → List ℕ → List ℕ → ℕ → List ℕ

@@ -5,7 +5,7 @@ use mathlib.Core.Path.{_≡_, ap, _∙_}
 use mathlib.Core.Bool.{Bool, _&&_}
 use native.Mathlib.Omega.{arith}
 use borrow.Author.Tests.{lt-ltb}
-use Rattle.sets.specs.WordLaws.{member-collect}
+use Rattle.sets.proofs.WordLaws.{member-collect}
 use Rattle.sets.specs.Sets.{words, capacity, has, setOf}
 
 pub has-set-of : (p : ℕ → Bool) (x : ℕ) → x < capacity → has (setOf p) x ≡ p x

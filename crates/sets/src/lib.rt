@@ -9,6 +9,19 @@ pub const WORDS: usize = 1;
 // How many postings a board holds: a set has a bit for each.
 pub const POSTINGS: usize = 64;
 
+// A byte as a wider number: a cast by itself would ask each caller that the byte fits.
+pub fn wide(x: u8) -> usize
+    ensures { λ r. ⌜ r ≡ x ⌝ }
+{
+    x as usize
+}
+
+pub fn wide32(x: u8) -> u32
+    ensures { λ r. ⌜ r ≡ x ⌝ }
+{
+    x as u32
+}
+
 // A set of posting numbers: number m is bit m % 64 of word m / 64.
 pub struct Set {
     pub words: [u64; WORDS],

@@ -13,15 +13,15 @@ use lib.Bits.{bitOr, or-lt}
 use lib.Count.{ones}
 use lib.Pow.{pow-pos, pow-lt}
 use borrow.Author.Tests.{leb-true, leb-false, ne-eqb, eq-eqb}
-use Rattle.sets.specs.Truth.{test}
+use Rattle.sets.proofs.Truth.{test}
 use Rattle.sets.specs.Below.{one, count}
 use Rattle.sets.specs.Masks.{hasBit}
-use Rattle.sets.specs.MaskLaws.{has-bit-above, has-bit-set, ones-count}
+use Rattle.sets.proofs.MaskLaws.{has-bit-above, has-bit-set, ones-count}
 use Rattle.site.specs.Sites.{sites}
 use Rattle.site.specs.Sends.{Send}
 use Rattle.masks.specs.SiteMasks.{onlySite, withSite, withSiteIf, nextSite, firstSites}
 use Rattle.site.specs.ByMask.{toMask}
-use Rattle.site.specs.ByMaskLaws.{only-site, mask-ext}
+use Rattle.site.proofs.ByMaskLaws.{only-site, mask-ext}
 
 -- a mask sends as many as it has sites
 mask-count : (n mask : ℕ) (send : ℕ → Send) → length (toMask n mask send) ≡ count (hasBit mask) n

@@ -10,7 +10,7 @@ use lib.Bits.{bitAnd, and-le-l}
 use lib.Pow.{pow-lt, pow-pos}
 use borrow.Author.Tests.{ltb-true}
 use Rattle.sets.specs.declared.Set.{Set}
-use Rattle.sets.specs.Truth.{test}
+use Rattle.sets.proofs.Truth.{test}
 use Rattle.sets.specs.Sets.{has}
 use Rattle.posting.specs.declared.Table.{Table}
 use Rattle.site.specs.declared.Setup.{Setup}

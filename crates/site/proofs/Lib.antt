@@ -1,5 +1,6 @@
--- What the proofs of the steps share.
+-- The steps by masks are the steps; and what the proofs of the functions share.
 -- Rests on the specs.
+pub mod ByMaskLaws
 pub mod Counts
 pub mod Firsts
 pub mod Fits

@@ -1,7 +1,6 @@
--- Sites: a site's parts. Sends and Steps: what it does. ByMask: the same by masks of receivers; ByMaskLaws: that it is the same.
+-- Sites: a site's parts. Sends and Steps: what it does. ByMask: the same by masks of receivers.
 -- Rests on masks, posting and sets.
 pub mod Sites
 pub mod Sends
 pub mod Steps
 pub mod ByMask
-pub mod ByMaskLaws

@@ -1,5 +1,5 @@
 -- What a step sends, in order, and what it is to a site.
--- Rests on Sites.
+-- Rests on sets.
 use Prim.Native.Nat.{ℕ, zero, suc}
 use mathlib.Core.Bool.{Bool, cond}
 use mathlib.Core.List.{List, [], _∷_, _++_}

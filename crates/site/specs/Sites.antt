@@ -20,17 +20,7 @@ sites = 7
 
 abbrev pub blankSite : Site
 blankSite =
-    record {
-      seen = emptySet;
-      held = emptySet;
-      stepped = emptySet;
-      finished = emptySet;
-      got = emptySet;
-      heard = replicate capacity 0;
-      good = replicate capacity 0;
-      place = 0;
-      delivered = emptyRecord;
-    }
+    record { seen = emptySet; held = emptySet; stepped = emptySet; finished = emptySet; got = emptySet; heard = replicate capacity 0; good = replicate capacity 0; place = 0; delivered = emptyRecord }
 
 abbrev pub blankTally : Tally
 blankTally = record { heard = 0; has = 0; union = emptySet }
@@ -42,17 +32,7 @@ noSet = ofWords []
 
 abbrev pub noSite : Site
 noSite =
-    record {
-      seen = noSet;
-      held = noSet;
-      stepped = noSet;
-      finished = noSet;
-      got = noSet;
-      heard = [];
-      good = [];
-      place = 0;
-      delivered = record { count = 0; numbers = [] };
-    }
+    record { seen = noSet; held = noSet; stepped = noSet; finished = noSet; got = noSet; heard = []; good = []; place = 0; delivered = record { count = 0; numbers = [] } }
 
 abbrev pub noTally : Tally
 noTally = record { heard = 0; has = 0; union = noSet }
@@ -78,99 +58,29 @@ plusIf mask p so = cond so (plus mask p) mask
 
 abbrev pub siteSeen : Site → Set → Site
 siteSeen s seen =
-    record {
-      seen = seen;
-      held = s .held;
-      stepped = s .stepped;
-      finished = s .finished;
-      got = s .got;
-      heard = s .heard;
-      good = s .good;
-      place = s .place;
-      delivered = s .delivered;
-    }
+    record { seen = seen; held = s .held; stepped = s .stepped; finished = s .finished; got = s .got; heard = s .heard; good = s .good; place = s .place; delivered = s .delivered }
 
 -- what it has heard for m
 abbrev pub siteHeard : Site → ℕ → ℕ → ℕ → Site
 siteHeard s m heard good =
-    record {
-      seen = s .seen;
-      held = s .held;
-      stepped = s .stepped;
-      finished = s .finished;
-      got = s .got;
-      heard = set (s .heard) m heard;
-      good = set (s .good) m good;
-      place = s .place;
-      delivered = s .delivered;
-    }
+    record { seen = s .seen; held = s .held; stepped = s .stepped; finished = s .finished; got = s .got; heard = set (s .heard) m heard; good = set (s .good) m good; place = s .place; delivered = s .delivered }
 
 abbrev pub siteStepped : Site → Set → Set → Set → Site
 siteStepped s seen stepped held =
-    record {
-      seen = seen;
-      held = held;
-      stepped = stepped;
-      finished = s .finished;
-      got = s .got;
-      heard = s .heard;
-      good = s .good;
-      place = s .place;
-      delivered = s .delivered;
-    }
+    record { seen = seen; held = held; stepped = stepped; finished = s .finished; got = s .got; heard = s .heard; good = s .good; place = s .place; delivered = s .delivered }
 
 abbrev pub siteFinished : Site → Set → Site
 siteFinished s finished =
-    record {
-      seen = s .seen;
-      held = s .held;
-      stepped = s .stepped;
-      finished = finished;
-      got = s .got;
-      heard = s .heard;
-      good = s .good;
-      place = s .place;
-      delivered = s .delivered;
-    }
+    record { seen = s .seen; held = s .held; stepped = s .stepped; finished = finished; got = s .got; heard = s .heard; good = s .good; place = s .place; delivered = s .delivered }
 
 abbrev pub siteGot : Site → Set → Site
 siteGot s got =
-    record {
-      seen = s .seen;
-      held = s .held;
-      stepped = s .stepped;
-      finished = s .finished;
-      got = got;
-      heard = s .heard;
-      good = s .good;
-      place = s .place;
-      delivered = s .delivered;
-    }
+    record { seen = s .seen; held = s .held; stepped = s .stepped; finished = s .finished; got = got; heard = s .heard; good = s .good; place = s .place; delivered = s .delivered }
 
 abbrev pub sitePlace : Site → ℕ → Site
 sitePlace s place =
-    record {
-      seen = s .seen;
-      held = s .held;
-      stepped = s .stepped;
-      finished = s .finished;
-      got = s .got;
-      heard = s .heard;
-      good = s .good;
-      place = place;
-      delivered = s .delivered;
-    }
+    record { seen = s .seen; held = s .held; stepped = s .stepped; finished = s .finished; got = s .got; heard = s .heard; good = s .good; place = place; delivered = s .delivered }
 
 abbrev pub siteDelivered : Site → Record → Site
 siteDelivered s delivered =
-    record {
-      seen = s .seen;
-      held = s .held;
-      stepped = s .stepped;
-      finished = s .finished;
-      got = s .got;
-      heard = s .heard;
-      good = s .good;
-      place = s .place;
-      delivered = delivered;
-    }
+    record { seen = s .seen; held = s .held; stepped = s .stepped; finished = s .finished; got = s .got; heard = s .heard; good = s .good; place = s .place; delivered = delivered }

@@ -1,5 +1,5 @@
 // One site: its sets, what it has heard, its log place and its record; and the third round of the postings that it owns.
-// Rests on posting and sets.
+// Rests on masks and posting.
 ghost use mathlib.Core.Path.{_≡_};
 ghost use Rattle.site.specs.Steps.{alone, majority};
 ghost use Rattle.site.specs.ByMask.{reached, late};
@@ -9,7 +9,7 @@ use sets::POSTINGS;
 use sets::Set;
 
 // How many sites a board has room for.
-pub const SITES: usize = 7;
+pub const SITES: usize = masks::SITES as usize;
 
 // What a start takes: n sites, f crashes allowed, the yes/no matrix over kinds.
 pub struct Setup {

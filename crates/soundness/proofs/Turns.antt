@@ -12,13 +12,13 @@ use lib.ListN.{length, getD, take, replicate, List·getD-eq-default}
 use lib.Seq.{take-suc, take-all}
 use borrow.Author.Tests.{eq-eqb, ne-eqb, ltb-true, le-leb, lt-leb}
 use Rattle.sets.specs.declared.Set.{Set}
-use Rattle.sets.specs.Truth.{never, not-so, and-left, and-right, or-left, or-right, not-flips}
+use Rattle.sets.proofs.Truth.{never, not-so, and-left, and-right, or-left, or-right, not-flips}
 use Rattle.sets.specs.Below.{allBelow, allOf}
-use Rattle.sets.specs.BelowLaws.{all-fails, all-none, all-more, all-end}
+use Rattle.sets.proofs.BelowLaws.{all-fails, all-none, all-more, all-end}
 use Rattle.sets.specs.Numbers.{listed, distinct}
-use Rattle.sets.specs.NumberLaws.{listed-last, distinct-last}
+use Rattle.sets.proofs.NumberLaws.{listed-last, distinct-last}
 use Rattle.sets.specs.Words.{Words, member, insert, collect}
-use Rattle.sets.specs.WordLaws.{member-empty, member-past, member-insert, insert-past, empty-shape, insert-shape, collect-shape, same-members}
+use Rattle.sets.proofs.WordLaws.{member-empty, member-past, member-insert, insert-past, empty-shape, insert-shape, collect-shape, same-members}
 use Rattle.sets.specs.Sets.{words, capacity, ofWords, has, setOf}
 use Rattle.posting.specs.declared.Table.{Table}
 use Rattle.posting.specs.declared.Record.{Record}

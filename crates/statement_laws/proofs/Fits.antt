@@ -1,5 +1,5 @@
 -- No statement is longer than the buffer that its program prints into, so every statement is written.
--- Rests on Same and agreement for the board and its figures, on printer and runfile for the lengths of numbers and refusals. Assumes nothing.
+-- Rests on Same, on agreement and statements. Assumes nothing.
 use Prim.Native.Nat.{ℕ, zero, suc, _+_, _*_, _<_, _≤_}
 use mathlib.Core.Path.{_≡_}
 use mathlib.Core.Logic.{inl, inr}
@@ -10,7 +10,7 @@ use lib.Dec.{eqb}
 use lib.IntN.{ℤ, pos, negsuc, natAbs}
 use lib.ListN.{length, getD, drop, length-append}
 use borrow.Author.Tests.{eqb-true}
-use Rattle.sets.specs.Truth.{test}
+use Rattle.sets.proofs.Truth.{test}
 use Rattle.sets.specs.Masks.{hasBit}
 use Rattle.posting.specs.Kinds.{accounts}
 use Rattle.books.specs.declared.Figures.{Figures}
@@ -30,7 +30,7 @@ use Rattle.printer.proofs.Lengths.{decimal-length, three-digits, state-length}
 use Rattle.printer.proofs.Writing.{fits-written}
 use Rattle.runfile.proofs.Programs.{start-accepted}
 use Rattle.runfile.proofs.Fits.{bufferLength, start-small, refused-length}
-use Rattle.figures_table.specs.Table.{positionWord, rateWord, calledWord, settledWord, accountAt, isBlank, signed, accountLine, accountPart, accountLines, hasNone, siteLine, accountsPart, sitePart, siteParts, allAgree, closingLine, statementText}
+use Rattle.statements.specs.Table.{positionWord, rateWord, calledWord, settledWord, accountAt, isBlank, signed, accountLine, accountPart, accountLines, hasNone, siteHeading, accountsPart, sitePart, siteParts, allAgree, closingLine, statementText}
 use Rattle.statements.specs.Statement.{statementOf, statedRun, statedFrom, stated}
 use Rattle.statement_laws.proofs.Same.{last-good}
 
@@ -118,7 +118,7 @@ module _ (l : List ℤ) (short : AllShort l) where
   ]
 
   site-length : (p : ℕ) (down : Bool) → p < 1_000 → length (sitePart l p down) ≤ 1998
-  unfolding sitePart siteLine
+  unfolding sitePart siteHeading
   site-length p down h =
       let state = cond down downWord upWord in
       omega (

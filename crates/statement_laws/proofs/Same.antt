@@ -1,5 +1,5 @@
 -- The statement of every accepted run file says that all sites that are up show the same figures.
--- Rests on agreement for the board that a run and a drain leave, on figures_table for what a statement shows of figures. Assumes nothing.
+-- Rests on agreement for the board that a run and a drain leave, on statements for what a statement shows of figures. Assumes nothing.
 use Prim.Native.Nat.{ℕ, zero, suc, _+_, _*_, _<_, _≤_}
 use mathlib.Core.Path.{_≡_, refl, sym, ap, _∙_, subst}
 use mathlib.Core.Logic.{inl, inr}
@@ -11,9 +11,9 @@ use lib.IntN.{ℤ, pos, negsuc}
 use lib.ListN.{length, getD, List·getD-append}
 use lib.Seq.{getD-append-add}
 use borrow.Author.Tests.{eq-eqb}
-use Rattle.sets.specs.Truth.{test, never}
+use Rattle.sets.proofs.Truth.{test, never}
 use Rattle.sets.specs.Masks.{hasBit}
-use Rattle.sets.specs.BelowLaws.{all-from}
+use Rattle.sets.proofs.BelowLaws.{all-from}
 use Rattle.posting.specs.Kinds.{accounts}
 use Rattle.books.specs.declared.Figures.{Figures}
 use Rattle.site.specs.declared.Setup.{Setup}
@@ -28,7 +28,7 @@ use Rattle.machine.specs.Figures.{figuresOf, figuresOfAll}
 use Rattle.machine.specs.History.{acceptedCalls, broughtDown}
 use Rattle.drain.specs.declared.Ending.{Ending}
 use Rattle.drain.specs.Drain.{endingOf, drained}
-use Rattle.shown.proofs.Showing.{length-all}
+use Rattle.whole_board.proofs.Showing.{length-all}
 use Rattle.invariants.proofs.History as history
 use Rattle.invariants.proofs.Quiet.{quiet-left}
 use Rattle.invariants.proofs.Reached.{Good}
@@ -39,7 +39,7 @@ use Rattle.agreement.proofs.Along.{run-earlier}
 use Rattle.agreement.proofs.Proved.{run-append, books-agree}
 use Rattle.agreement.proofs.Drained.{drain-says-reached}
 use Rattle.decoder.specs.RunFile.{setupOf, wellFormed, callsOf}
-use Rattle.figures_table.specs.Table.{sameWords, figureAt, accountAt, siteParts, sameNumber, sameAccount, sameSite, agree, agreeWith, allAgree, statementText}
+use Rattle.statements.specs.Table.{sameWords, figureAt, accountAt, siteParts, sameNumber, sameAccount, sameSite, agree, agreeWith, allAgree, statementText}
 use Rattle.statements.specs.Statement.{statementOf, drainLimit, statedRun, statedFrom, stated}
 
 -- ---- figures that are the same

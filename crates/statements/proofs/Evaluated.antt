@@ -6,13 +6,13 @@ use mathlib.Core.List.{[], _∷_}
 use lib.ListN.{length}
 use Rattle.machine.proofs.Computes.{of-sets}
 use Rattle.runfile.proofs.Computes.{of-decoder, of-printer}
-use Rattle.figures_table.specs.Table.{accountAt, isBlank, signed, accountLine, accountPart, accountLines, hasNone, siteLine, accountsPart, sitePart, siteParts, sameNumber, sameAccount, sameSite, agree, agreeWith, allAgree, statementText}
+use Rattle.statements.specs.Table.{accountAt, isBlank, signed, accountLine, accountPart, accountLines, hasNone, siteHeading, accountsPart, sitePart, siteParts, sameNumber, sameAccount, sameSite, agree, agreeWith, allAgree, statementText}
 use Rattle.statements.specs.Statement.{stated}
 use Rattle.statements.specs.Examples.{siteFigures, threeFigures, threeText}
 
 -- An unfolding line with this name unfolds all that stands on the line under it.
 unfoldable of-table : Bool
-unfolding of-sets of-printer accountAt isBlank signed accountLine accountPart accountLines hasNone siteLine accountsPart sitePart siteParts sameNumber sameAccount sameSite agree agreeWith allAgree statementText siteFigures threeFigures
+unfolding of-sets of-printer accountAt isBlank signed accountLine accountPart accountLines hasNone siteHeading accountsPart sitePart siteParts sameNumber sameAccount sameSite agree agreeWith allAgree statementText siteFigures threeFigures
 of-table = true
 
 -- site 2 is down

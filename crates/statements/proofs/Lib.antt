@@ -1,4 +1,5 @@
 -- What the proofs of statements share, and the evaluated case.
--- Assumes nothing.
+-- Rests on the specs. Assumes nothing.
+pub mod Figures
 pub mod Stated
 pub mod Evaluated

@@ -3,35 +3,35 @@
 use Prim.Native.Nat.{ℕ, zero, suc, _+_, _*_, _≤_}
 use mathlib.Core.Path.{_≡_, refl, sym, ap, _∙_}
 use mathlib.Core.Logic.{inl, inr, _≢_}
-use mathlib.Core.Bool.{true, false}
+use mathlib.Core.Bool.{true}
 use mathlib.Core.List.{List, [], _∷_, _++_}
 use native.Mathlib.Omega.{arith}
 use lib.IntN.{ℤ}
 use lib.ListN.{length, take, drop}
 use borrow.Author.Tests.{ne-eqb, le-ltb}
 use Rattle.site.specs.declared.Setup.{Setup}
-use Rattle.steps.specs.Causes.{firstCause}
 use Rattle.arrays.specs.Layout.{downAt}
 use Rattle.arrays.specs.Arrays.{Arrays, byte}
 use Rattle.machine.specs.declared.Answer.{Answer}
 use Rattle.machine.specs.declared.Board.{Board}
 use Rattle.machine.specs.Boards.{freshBoard}
 use Rattle.machine.specs.View.{view}
-use Rattle.machine.specs.ByMask.{startCauses}
 use Rattle.steps.specs.declared.Call.{Call}
 use Rattle.machine.specs.Soundness.{isSound}
 use Rattle.machine.specs.Calls.{answerOf}
 use Rattle.machine.specs.Runs.{taking, running}
-use Rattle.shown.proofs.Showing.{length-all}
+use Rattle.whole_board.proofs.Showing.{length-all}
 use Rattle.machine.specs.Figures.{figuresOfAll, shown, showingAll}
 use Rattle.drain.specs.declared.Drained.{Drained}
 use Rattle.drain.specs.Drain.{nextEvent, draining, drained}
 use Rattle.drain.proofs.Loop.{next-cases, draining-none, draining-event}
-use Rattle.decoder.specs.RunFile.{setupOf, wellFormed, callsOf}
+use Rattle.decoder.specs.RunFile.{callsOf}
 use Rattle.printer.specs.Output.{refusedLine}
-use Rattle.figures_table.specs.Table.{statementText}
+use Rattle.statements.specs.Table.{statementText}
+use Rattle.runfile.specs.declared.begin.Begun.{Begun}
+use Rattle.runfile.specs.Begins.{begunBy}
 use Rattle.runfile.specs.Program.{StaysSound}
-use Rattle.runfile.proofs.Programs.{file-refused, file-taken}
+use Rattle.runfile.proofs.Programs.{begun-refused, begun-taken}
 use Rattle.statements.specs.Statement.{statementOf, drainLimit, statedRun, statedFrom, stated}
 
 -- ---- a drain
@@ -133,18 +133,12 @@ module _ (setup : Setup) (calls : List Call) (stays : StaysSound (freshBoard set
 
 -- ---- inputs
 
-module _ (input : List ℕ) where
-  pub malformed-stated : wellFormed input ≡ false → refusedLine 1 ≡ stated input
-  unfolding stated
-  malformed-stated f = rw f
+module _ (input : List ℕ) (begun : Begun) (eb : begun ≡ begunBy input) where
+  pub refused-stated : begun .why ≢ 0 → refusedLine (begun .why) ≡ stated input
+  unfolding stated statedFrom
+  refused-stated d =
+      begun-refused input begun eb (λ o. statedFrom o (callsOf input)) (refusedLine 1) (refusedLine (begun .why)) d (ap refusedLine) (rw (ne-eqb (begun .why) 0 d))
 
-  -- the start of a well-formed file, from the number of its refusal
-  module _ (setup : Setup) (why : ℕ) (well : wellFormed input ≡ true) (es : setup ≡ setupOf input)
-      (tested : why ≡ firstCause (startCauses (setup .n) (setup .f) (setup .matrix))) where
-    pub refused-stated : why ≢ 0 → refusedLine why ≡ stated input
-    unfolding stated statedFrom
-    refused-stated d = rw (well, sym (file-refused setup why tested input es d), ne-eqb why 0 d)
-
-    pub started-stated : why ≡ 0 → statedRun (freshBoard setup) (callsOf input) ≡ stated input
-    unfolding stated statedFrom
-    started-stated z = rw (well, sym (file-taken setup why tested input es z))
+  pub started-stated : begun .why ≡ 0 → statedRun (freshBoard (begun .setup)) (callsOf input) ≡ stated input
+  unfolding stated statedFrom
+  started-stated z = begun-taken input begun eb (λ o. statedFrom o (callsOf input)) (refusedLine 1) z

@@ -13,7 +13,7 @@ use Rattle.machine.specs.Figures.{figuresOfAll}
 use Rattle.drain.specs.Drain.{drained}
 use Rattle.decoder.specs.RunFile.{setupOf, wellFormed, callsOf}
 use Rattle.printer.specs.Output.{refusedLine}
-use Rattle.figures_table.specs.Table.{statementText}
+use Rattle.statements.specs.Table.{statementText}
 
 -- the statement of a board: its sites, their figures, and those that are down
 unfoldable pub statementOf : Board → List ℕ

@@ -13,46 +13,47 @@ ghost use Rattle.decoder.specs.RunFile.{eventLimit, eventCount, callsOf};
 ghost use Rattle.runfile.specs.Program.{StaysSound};
 ghost use Rattle.printer.specs.Writing.{slicePrinted, writtenOf, answerPrinted};
 ghost use Rattle.statements.specs.Statement.{statedRun, stated};
+use crate::lines::print_statement;
 use arrays::BYTES;
 use arrays::COUNTS;
 use arrays::DOWN;
 use arrays::SETS;
+use books::FIGURES;
 use decoder::file::EVENTS;
 use decoder::file::event_count;
-use decoder::file::setup_of;
-use decoder::file::well_formed;
 use drain::drain_events;
-use figures_table::lines::print_statement;
 use flight::LOADS;
 use flight::MASKS;
 use flight::PAIRS;
-use opening::start_refusal;
 use printer::Printed;
 use printer::print::print_refused;
-use printer::print::wide;
+use runfile::begin::begin;
 use runfile::run::refusal_of;
 use runfile::run::run_events;
 use sets::POSTINGS;
-use shown::figures::books_all_at;
+use sets::wide;
+use site::SITES;
 use site::Setup;
+use whole_board::figures::books_all_at;
 
-// How many numbers the books of a site have, and those of all sites that there can be.
-const FIGURES: usize = 64;
+pub mod lines;
+pub mod same;
 
-const ALL_FIGURES: usize = 448;
+// How many numbers the books of all sites that there can be have.
+const ALL_FIGURES: usize = SITES * FIGURES;
 
 // A drain with this limit ends quiet on every board that a run reaches.
 const DRAIN: u64 = 6784;
 
 // What a run and a drain leave beside the books: the drain's count, the sites that are down, and the number of the books' refusal.
-pub struct Settled {
+pub struct AfterDrain {
     pub count: u64,
     pub down: u8,
     pub why: u8,
 }
 
 // The events of a file from the board of its start, a drain with the limit, and the books of all sites in the slice.
-pub fn settle(input: &[u8], setup: Setup, limit: u64, out: &mut [i64]) -> Settled
+pub fn run_and_drain(input: &[u8], setup: Setup, limit: u64, out: &mut [i64]) -> AfterDrain
     requires { ⌜ StaysSound (freshBoard setup) × GoodIf false (freshBoard setup) × (eventCount (now input) ≤ eventLimit) ⌝ }
     ensures { λ r. ⌜ r .count ≡ drained (running (freshBoard setup) (callsOf (now (input .entry)))) limit .count ⌝ }
     ensures { λ r. ⌜ r .down ≡ drained (running (freshBoard setup) (callsOf (now (input .entry)))) limit .board .down ⌝ }
@@ -96,7 +97,7 @@ pub fn settle(input: &[u8], setup: Setup, limit: u64, out: &mut [i64]) -> Settle
     );
     let answer = books_all_at(&counts, &bytes, &amounts, setup, out);
     let why = refusal_of(answer);
-    Settled {
+    AfterDrain {
         count: done.count,
         down: bytes[DOWN],
         why: why,
@@ -111,10 +112,10 @@ fn state_from(input: &[u8], setup: Setup, out: &mut [u8]) -> Printed
     ensures { λ r. ⌜ writtenOf r ≡ writtenOf (answerPrinted (statedRun (freshBoard setup) (callsOf (now (input .entry)))) (now (out .entry))) ⌝ }
 {
     let mut figures = [0; ALL_FIGURES];
-    let settled = settle(input, setup, DRAIN, &mut figures);
+    let left = run_and_drain(input, setup, DRAIN, &mut figures);
     let n = setup.n;
     let count = FIGURES * wide(n);
-    print_statement(&figures[..count], n, settled.down, out)
+    print_statement(&figures[..count], n, left.down, out)
 }
 
 // A run file, run, drained and stated: of any input what `statement` prints, into the slice if it has room for it.
@@ -123,13 +124,9 @@ pub fn statement(input: &[u8], out: &mut [u8]) -> Printed
     ensures { λ _. ⌜ now (out .exit) ≡ slicePrinted (stated (now (input .entry))) (now (out .entry)) ⌝ }
     ensures { λ r. ⌜ writtenOf r ≡ writtenOf (answerPrinted (stated (now (input .entry))) (now (out .entry))) ⌝ }
 {
-    if well_formed(input) {
-        let setup = setup_of(input);
-        let refusal = start_refusal(setup.n, setup.f, setup.matrix);
-        if refusal != 0 {
-            return print_refused(refusal, out);
-        }
-        return state_from(input, setup, out);
+    let begun = begin(input);
+    if begun.why != 0 {
+        return print_refused(begun.why, out);
     }
-    print_refused(1, out)
+    state_from(input, begun.setup, out)
 }

@@ -1,5 +1,5 @@
 -- A SECOND that overtakes FIRST, and cuts: the definitions compute to what the table says.
--- Assumes nothing.
+-- Rests on Steps, on cases. Assumes nothing.
 use mathlib.Core.Path.{refl}
 use Rattle.cases.specs.Trials.{results, Hold}
 use Rattle.cases.specs.Boards.{m9End, busy, toPool, toDeliver, rateDelivers}

@@ -1,3 +1,3 @@
 -- The table of specs/, evaluated.
--- Assumes nothing.
+-- Rests on the specs. Assumes nothing.
 pub mod Evaluated

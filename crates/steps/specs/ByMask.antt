@@ -27,8 +27,8 @@ receiptByMask setup table site tally form m from to good carried =
     (deliverByMask setup table site tally to m)))
 
 -- the site of a step once it has delivered m, if it is to
-abbrev pub settled : Stepped → ℕ → Site
-settled s m = cond (s .delivers) (siteDelivered (s .site) (delivering (s .site .delivered) m)) (s .site)
+abbrev pub afterDelivery : Stepped → ℕ → Site
+afterDelivery s m = cond (s .delivers) (siteDelivered (s .site) (delivering (s .site .delivered) m)) (s .site)
 
 -- the step with its first j sends, and nothing delivered
 abbrev pub cutStep : Stepped → ℕ → Stepped

@@ -29,8 +29,8 @@ deliversTo delivers Whole = delivers
 deliversTo delivers (After j) = false
 
 -- the site of such a step about m
-abbrev pub settledTo : Site → Bool → ℕ → Cut → Site
-settledTo s delivers m cut = cond (deliversTo delivers cut) (siteDelivered s (delivering (s .delivered) m)) s
+abbrev pub afterDeliveryTo : Site → Bool → ℕ → Cut → Site
+afterDeliveryTo s delivers m cut = cond (deliversTo delivers cut) (siteDelivered s (delivering (s .delivered) m)) s
 
 -- the site that has taken m's entry: it delivers, or its step is cut before that
 abbrev pub entryTo : Site → Set → ℕ → Cut → Site

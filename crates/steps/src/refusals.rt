@@ -1,10 +1,10 @@
 // The refusals of a call that hands in a sound board, by number: the lowest that applies, 0 if none does.
-// Rests on masks and posting. Each function tests some of the causes, in rising number.
+// Rests on site. Each function tests some of the causes, in rising number.
 ghost use Prim.Native.Nat.{_≤_};
 ghost use mathlib.Core.Path.{_≡_};
 ghost use lib.Count.{ones};
 ghost use Rattle.site.specs.Sites.{sites};
-ghost use Rattle.steps.specs.Causes.{firstCause, siteCauses, messageCauses, offerCauses, cutCauses};
+ghost use Rattle.steps.specs.CauseLists.{firstCause, siteCauses, messageCauses, offerCauses, cutCauses};
 use crate::Cut;
 use masks::has_site;
 use posting::Posting;

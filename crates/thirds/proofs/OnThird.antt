@@ -19,7 +19,7 @@ use Rattle.steps.specs.declared.Cut.{Cut}
 use Rattle.steps.specs.Cuts.{sitesTo}
 use Rattle.arrays.specs.Layout.{finishedOf, poolSlot, unionOf, entryOf, talliedAt, hasAt}
 use Rattle.arrays.specs.Arrays.{Arrays, arrays, withSets, withBytes, withMasks, withCarried, slotSet, storing, hasIn, adding, byte, marked}
-use Rattle.flat.specs.Flat.{flat, cutCause, consumed, passedThird, tallying, heardThird, finishing, sentThird, entering, pooledThird, settledThird, flatThird}
+use Rattle.flat.specs.Flat.{flat, cutCause, consumed, passedThird, tallying, heardThird, finishing, sentThird, entering, pooledThird, concludedThird, flatThird}
 use Rattle.flat.proofs.Ways.{is-refused, goes-on, not-followed, is-followed}
 
 -- ---- m's entry into the pool
@@ -135,21 +135,21 @@ module _ (setup : Setup) (a : Arrays) (m from to : ℕ) (cut : Cut) where
     -- ---- not late
 
     module _ (isReached : Bool) (is-reached : isReached ≡ reached setup heard) where
-      pub settled-heard :
-          isReached ≡ false → settledThird setup a m from to heard holders union cut ≡ heardThird setup a m from to heard holders union cut
-      unfolding settledThird
-      settled-heard f = rw (sym is-reached, f)
+      pub concluded-heard :
+          isReached ≡ false → concludedThird setup a m from to heard holders union cut ≡ heardThird setup a m from to heard holders union cut
+      unfolding concludedThird
+      concluded-heard f = rw (sym is-reached, f)
 
       module _ (so : isReached ≡ true) (most : Bool) (is-most : most ≡ majority setup (bitAnd holders heard)) where
-        pub settled-sent :
-            most ≡ true → settledThird setup a m from to heard holders union cut ≡ sentThird setup a m from to heard holders union cut
-        unfolding settledThird
-        settled-sent t = rw (sym is-reached, so, sym is-most, t)
+        pub concluded-sent :
+            most ≡ true → concludedThird setup a m from to heard holders union cut ≡ sentThird setup a m from to heard holders union cut
+        unfolding concludedThird
+        concluded-sent t = rw (sym is-reached, so, sym is-most, t)
 
-        pub settled-pooled :
-            most ≡ false → settledThird setup a m from to heard holders union cut ≡ pooledThird setup a m from to heard holders union cut
-        unfolding settledThird
-        settled-pooled f = rw (sym is-reached, so, sym is-most, f)
+        pub concluded-pooled :
+            most ≡ false → concludedThird setup a m from to heard holders union cut ≡ pooledThird setup a m from to heard holders union cut
+        unfolding concludedThird
+        concluded-pooled f = rw (sym is-reached, so, sym is-most, f)
 
   -- ---- THIRD
 
@@ -159,11 +159,11 @@ module _ (setup : Setup) (a : Arrays) (m from to : ℕ) (cut : Cut) where
     unfolding flatThird
     third-late t = rw (sym is-done, sym is-late, t)
 
-    pub third-settled :
+    pub third-concluded :
         (heard holders : ℕ) (load old union : Set) (holds : Bool) → isLate ≡ false → load ≡ setIn (a .carried) m from
         → heard ≡ withSite (byte (a .bytes) (talliedAt m)) from → holds ≡ has load m → holders ≡ withSiteIf (byte (a .bytes) (hasAt m)) from holds
         → old ≡ slotSet (a .sets) (unionOf m) → union ≡ join old load
-        → flatThird setup a m from to cut ≡ settledThird setup a m from to heard holders union cut
+        → flatThird setup a m from to cut ≡ concludedThird setup a m from to heard holders union cut
     unfolding flatThird
-    third-settled heard holders load old union holds f el eh es eg eo eu =
+    third-concluded heard holders load old union holds f el eh es eg eo eu =
         rw (sym is-done, sym is-late, f, eu, eo, eg, es, eh, el)

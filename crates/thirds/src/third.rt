@@ -1,12 +1,12 @@
 // THIRD m received at m's owner: tallied; at the (n - f)th m is finished, and DELIVER goes to all or m's entry into the pool. A late one is
-// consumed without effect. Rests on arrays, on site for late and majority, on steps for the cut.
+// consumed without effect. Rests on flat.
 ghost use Prim.Native.Nat.{ℕ, _<_};
 ghost use mathlib.Core.Path.{_≡_};
 ghost use mathlib.Core.List.{List};
 ghost use Rattle.sets.specs.Sets.{capacity};
 ghost use Rattle.site.specs.Sites.{sites};
 ghost use Rattle.arrays.specs.Arrays.{arrays};
-ghost use Rattle.flat.specs.Flat.{flat, passedThird, tallying, heardThird, finishing, entering, sentThird, pooledThird, settledThird, flatThird};
+ghost use Rattle.flat.specs.Flat.{flat, passedThird, tallying, heardThird, finishing, entering, sentThird, pooledThird, concludedThird, flatThird};
 use arrays::BYTES;
 use arrays::DOWN;
 use arrays::ENTRY;
@@ -219,7 +219,7 @@ fn send_entry(
 
 // A THIRD that is not late, once its set has joined the union: more than n/2 of the carried sets contain m if the mask of their senders has
 // so many ones.
-fn settle_third(
+fn conclude_third(
     words: &mut [u64; SETS],
     bytes: &mut [u8; BYTES],
     masks: &mut [u8; MASKS],
@@ -234,7 +234,7 @@ fn settle_third(
     cut: Cut,
 ) -> u8
     requires { ⌜ (m < capacity) × (from < sites) × (to < sites) ⌝ }
-    ensures { λ r. ⌜ ((counts amounts good : List ℕ) → flat r (arrays (now (words .exit)) counts (now (bytes .exit)) amounts (now (masks .exit)) good (now (carried .exit))) ≡ settledThird setup (arrays (now (words .entry)) counts (now (bytes .entry)) amounts (now (masks .entry)) good (now (carried .entry))) m from to heard holders union cut) ⌝ }
+    ensures { λ r. ⌜ ((counts amounts good : List ℕ) → flat r (arrays (now (words .exit)) counts (now (bytes .exit)) amounts (now (masks .exit)) good (now (carried .exit))) ≡ concludedThird setup (arrays (now (words .entry)) counts (now (bytes .entry)) amounts (now (masks .entry)) good (now (carried .entry))) m from to heard holders union cut) ⌝ }
 {
     if setup.reached(heard) {
         if setup.majority(holders & heard) {
@@ -309,7 +309,7 @@ pub fn on_third(
     let holders = with_site_if(bytes[HAS + m], from as u8, holds);
     let old = load(words, UNION + m);
     let union = old.join(set);
-    settle_third(
+    conclude_third(
         words,
         bytes,
         masks,

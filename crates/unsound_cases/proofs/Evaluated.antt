@@ -1,5 +1,5 @@
 -- Each way to be unsound, and odd boards that are sound: the definitions compute to what the table says.
--- Assumes nothing.
+-- Rests on Unsound, on cases. Assumes nothing.
 use mathlib.Core.Path.{refl}
 use Rattle.cases.specs.Trials.{results, Hold}
 use Rattle.cases.specs.Boards.{m9End, busy}

@@ -14,8 +14,8 @@ use Rattle.arrays.specs.Layout.{seenOf, heldOf, steppedOf, finishedOf, gotOf, u
 use Rattle.arrays.specs.Arrays.{Arrays, slotSet, byte}
 
 -- the record of site p
-unfoldable pub recordOf : Arrays → ℕ → Record
-recordOf a p = record { count = getD (a .counts) (deliveredAt p) 0; numbers = wordsFrom (a .bytes) (recordAt p 0) capacity }
+unfoldable pub recordIn : Arrays → ℕ → Record
+recordIn a p = record { count = getD (a .counts) (deliveredAt p) 0; numbers = wordsFrom (a .bytes) (recordAt p 0) capacity }
 
 -- what belongs to site p
 unfoldable pub siteOf : Arrays → ℕ → Site
@@ -29,7 +29,7 @@ siteOf a p =
       heard = wordsFrom (a .bytes) (heardAt p 0) capacity;
       good = wordsFrom (a .bytes) (goodAt p 0) capacity;
       place = getD (a .counts) (placeAt p) 0;
-      delivered = recordOf a p;
+      delivered = recordIn a p;
     }
 
 -- the tally of posting m, and its row

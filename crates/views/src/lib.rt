@@ -1,5 +1,5 @@
 // What the flat arrays show of a board, taken off them: sites, tallies, rows, entries, the log.
-// Rests on arrays, on site, posting and sets.
+// Rests on arrays and books.
 ghost use Prim.Native.Nat.{ℕ, _+_, _<_, _≤_};
 ghost use mathlib.Core.Path.{_≡_};
 ghost use mathlib.Core.List.{List};
@@ -9,7 +9,7 @@ ghost use Rattle.site.specs.Sites.{sites};
 ghost use Rattle.flight.specs.Flights.{wordsFrom};
 ghost use Rattle.arrays.specs.Layout.{bytesLong, entryOf};
 ghost use Rattle.arrays.specs.Arrays.{arrays, slotSet};
-ghost use Rattle.views.specs.Views.{recordOf, siteOf, tallyOf, rowOf, tableOf, logOf};
+ghost use Rattle.views.specs.Views.{recordIn, siteOf, tallyOf, rowOf, tableOf, logOf};
 use arrays::BYTES;
 use arrays::COUNTS;
 use arrays::DELIVERED;
@@ -59,7 +59,7 @@ fn column(bytes: &[u8; BYTES], at: usize) -> [u8; POSTINGS]
 // The record of site p.
 pub fn record_of(counts: &[usize; COUNTS], bytes: &[u8; BYTES], p: usize) -> Record
     requires { ⌜ p < sites ⌝ }
-    ensures { λ r. ⌜ ((sets amounts masks good carried : List ℕ) → r ≡ recordOf (arrays sets (now (counts .entry)) (now (bytes .entry)) amounts masks good carried) p) ⌝ }
+    ensures { λ r. ⌜ ((sets amounts masks good carried : List ℕ) → r ≡ recordIn (arrays sets (now (counts .entry)) (now (bytes .entry)) amounts masks good carried) p) ⌝ }
 {
     let numbers = column(bytes, RECORD + p * POSTINGS);
     Record {

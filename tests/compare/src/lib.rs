@@ -1,5 +1,5 @@
 // Holds: the model's field rule, conflicts, effects and books compared with the proved code, suite by suite.
-// Rests on: the static library of the proved crate exported, and the model.
+// Rests on: the static library of the proved crate exports, and the model.
 
 pub mod books;
 pub mod conflicts;

@@ -1,5 +1,5 @@
 // Holds: the functions of the static library as safe functions over numbers and slices.
-// Rests on: the static library of the proved crate exported, whose contracts its source states.
+// Rests on: the static library of the proved crate exports, whose contracts its source states.
 
 /// The answers of the functions that can refuse. Refused is none of document 01's numbers.
 pub const DONE: u8 = 0;
@@ -12,10 +12,10 @@ pub const RECORD: usize = 65;
 
 mod library {
     extern "C" {
-        pub fn exported_fields_ok(kind: u8, a: u8, b: u8, amount: u32) -> bool;
-        pub fn exported_symmetric(matrix: u16) -> bool;
-        pub fn exported_has_fixed_pairs(matrix: u16) -> bool;
-        pub fn exported_conflicting(
+        pub fn board_fields_ok(kind: u8, a: u8, b: u8, amount: u32) -> bool;
+        pub fn board_symmetric(matrix: u16) -> bool;
+        pub fn board_has_fixed_pairs(matrix: u16) -> bool;
+        pub fn board_conflicting(
             matrix: u16,
             m: usize,
             i: u8,
@@ -26,8 +26,8 @@ mod library {
             c: u8,
             d: u8,
         ) -> bool;
-        pub fn exported_size_of_call(position: i64, rate: i64) -> u64;
-        pub fn exported_effect(
+        pub fn board_size_of_call(position: i64, rate: i64) -> u64;
+        pub fn board_effect(
             kind: u8,
             a: u8,
             b: u8,
@@ -36,7 +36,7 @@ mod library {
             figures: *mut i64,
             figures_len: usize,
         ) -> u8;
-        pub fn exported_conflict_set(
+        pub fn board_conflict_set(
             matrix: u16,
             rows: *const u8,
             rows_len: usize,
@@ -44,7 +44,7 @@ mod library {
             out: *mut u64,
             out_len: usize,
         ) -> u8;
-        pub fn exported_books(
+        pub fn board_books(
             rows: *const u8,
             rows_len: usize,
             delivered: *const u8,
@@ -52,7 +52,7 @@ mod library {
             out: *mut i64,
             out_len: usize,
         ) -> u8;
-        pub fn exported_books_all(
+        pub fn board_books_all(
             rows: *const u8,
             rows_len: usize,
             delivered: *const u8,
@@ -69,39 +69,39 @@ use model::Posting;
 // neither keeps nor passes: so each call below is sound.
 
 pub fn fields_ok(kind: u8, a: u8, b: u8, amount: u32) -> bool {
-    unsafe { library::exported_fields_ok(kind, a, b, amount) }
+    unsafe { library::board_fields_ok(kind, a, b, amount) }
 }
 
 pub fn symmetric(matrix: u16) -> bool {
-    unsafe { library::exported_symmetric(matrix) }
+    unsafe { library::board_symmetric(matrix) }
 }
 
 pub fn has_fixed_pairs(matrix: u16) -> bool {
-    unsafe { library::exported_has_fixed_pairs(matrix) }
+    unsafe { library::board_has_fixed_pairs(matrix) }
 }
 
 /// Whether p with number m and q with number x conflict.
 pub fn conflicting(matrix: u16, m: usize, p: &Posting, x: usize, q: &Posting) -> bool {
-    unsafe { library::exported_conflicting(matrix, m, p.kind, p.a, p.b, x, q.kind, q.a, q.b) }
+    unsafe { library::board_conflicting(matrix, m, p.kind, p.a, p.b, x, q.kind, q.a, q.b) }
 }
 
 pub fn size_of_call(position: i64, rate: i64) -> u64 {
-    unsafe { library::exported_size_of_call(position, rate) }
+    unsafe { library::board_size_of_call(position, rate) }
 }
 
 pub fn effect(p: &Posting, account: u8, figures: &mut [i64]) -> u8 {
     let (start, len) = (figures.as_mut_ptr(), figures.len());
-    unsafe { library::exported_effect(p.kind, p.a, p.b, p.amount, account, start, len) }
+    unsafe { library::board_effect(p.kind, p.a, p.b, p.amount, account, start, len) }
 }
 
 pub fn conflict_set(matrix: u16, rows: &[u8], m: usize, out: &mut [u64]) -> u8 {
     let (start, len) = (out.as_mut_ptr(), out.len());
-    unsafe { library::exported_conflict_set(matrix, rows.as_ptr(), rows.len(), m, start, len) }
+    unsafe { library::board_conflict_set(matrix, rows.as_ptr(), rows.len(), m, start, len) }
 }
 
 pub fn books(rows: &[u8], delivered: &[u8], out: &mut [i64]) -> u8 {
     unsafe {
-        library::exported_books(
+        library::board_books(
             rows.as_ptr(),
             rows.len(),
             delivered.as_ptr(),
@@ -114,7 +114,7 @@ pub fn books(rows: &[u8], delivered: &[u8], out: &mut [i64]) -> u8 {
 
 pub fn books_all(rows: &[u8], delivered: &[u8], out: &mut [i64]) -> u8 {
     unsafe {
-        library::exported_books_all(
+        library::board_books_all(
             rows.as_ptr(),
             rows.len(),
             delivered.as_ptr(),

@@ -1,4 +1,4 @@
-// Holds: the program `board`: a run file on standard input, its answers on standard output.
+// Holds: the program `model-board`: a run file on standard input, its answers on standard output.
 // Rests on: program.
 
 use std::io::{Read, Write};

@@ -13,23 +13,28 @@ pub const PROVED: Programs = Programs {
 
 mod library {
     extern "C" {
-        pub fn run_file(input: *const u8, length: usize, out: *mut u8, room: usize) -> u64;
-        pub fn run_drain(
+        pub fn board_run_file(input: *const u8, length: usize, out: *mut u8, room: usize) -> u64;
+        pub fn board_run_drain(
             input: *const u8,
             length: usize,
             limit: u64,
             out: *mut i64,
             room: usize,
         ) -> u64;
-        pub fn run_by_value(
+        pub fn board_run_by_value(
             input: *const u8,
             length: usize,
             limit: u64,
             out: *mut i64,
             room: usize,
         ) -> u64;
-        pub fn run_events(input: *const u8, length: usize, numbers: *mut u8, room: usize) -> u64;
-        pub fn call_changed(
+        pub fn board_run_events(
+            input: *const u8,
+            length: usize,
+            numbers: *mut u8,
+            room: usize,
+        ) -> u64;
+        pub fn board_call_changed(
             input: *const u8,
             length: usize,
             place: u64,
@@ -50,22 +55,22 @@ mod library {
 
 fn run_file(input: &[u8], out: &mut [u8]) -> u64 {
     let (start, room) = (out.as_mut_ptr(), out.len());
-    unsafe { library::run_file(input.as_ptr(), input.len(), start, room) }
+    unsafe { library::board_run_file(input.as_ptr(), input.len(), start, room) }
 }
 
 fn run_drain(input: &[u8], limit: u64, out: &mut [i64]) -> u64 {
     let (start, room) = (out.as_mut_ptr(), out.len());
-    unsafe { library::run_drain(input.as_ptr(), input.len(), limit, start, room) }
+    unsafe { library::board_run_drain(input.as_ptr(), input.len(), limit, start, room) }
 }
 
 fn run_by_value(input: &[u8], limit: u64, out: &mut [i64]) -> u64 {
     let (start, room) = (out.as_mut_ptr(), out.len());
-    unsafe { library::run_by_value(input.as_ptr(), input.len(), limit, start, room) }
+    unsafe { library::board_run_by_value(input.as_ptr(), input.len(), limit, start, room) }
 }
 
 fn run_events(input: &[u8], numbers: &mut [u8]) -> u64 {
     let (start, room) = (numbers.as_mut_ptr(), numbers.len());
-    unsafe { library::run_events(input.as_ptr(), input.len(), start, room) }
+    unsafe { library::board_run_events(input.as_ptr(), input.len(), start, room) }
 }
 
 fn call_changed(
@@ -78,7 +83,7 @@ fn call_changed(
     board: &mut [u64],
 ) -> u64 {
     unsafe {
-        library::call_changed(
+        library::board_call_changed(
             input.as_ptr(),
             input.len(),
             place,

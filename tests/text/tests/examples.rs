@@ -34,7 +34,8 @@ fn all_are_listed() {
     let folders = entries.filter(|entry| entry.path().is_dir());
     let mut names: Vec<_> = folders.map(|entry| entry.file_name()).collect();
     names.sort();
-    assert_eq!(names, NAMES);
+    // c has a program and no run file
+    assert_eq!(names, [&["c"], &NAMES[..]].concat());
 }
 
 #[test]

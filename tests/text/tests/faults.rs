@@ -110,7 +110,7 @@ fn programs() {
     for (path, input, output) in [
         (env!("CARGO_BIN_EXE_assemble"), text.as_bytes(), &*file),
         (env!("CARGO_BIN_EXE_disassemble"), &*file, text.as_bytes()),
-        (env!("CARGO_BIN_EXE_statement"), b"RUN", b"F 1\n"),
+        (env!("CARGO_BIN_EXE_model-statement"), b"RUN", b"F 1\n"),
     ] {
         let done = program(path, input);
         assert!(done.status.success() && done.stderr.is_empty());

@@ -2,7 +2,7 @@
 -- Assumes nothing.
 use Prim.Native.Nat.{_%_}
 use native.Mathlib.Omega.{arith}
-use Rattle.sets.specs.MaskLaws.{one-shl}
+use Rattle.sets.proofs.MaskLaws.{one-shl}
 use Rattle.arrays.specs.Arrays.{adding}
 use borrow.Author.Needs.{needs}
 use Rattle.arrays.proofs.add_to.Statement.{statement}

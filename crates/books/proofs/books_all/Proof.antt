@@ -8,14 +8,14 @@ use lib.ListN.{length, drop, length-drop}
 use denote.Ref.{now}
 use borrow.Author.Needs.{needs}
 use borrow.Rule.Slice.PartMut.{same-len-mid}
-use Rattle.books.specs.Books.{figuresOf, numbersOfSites}
+use Rattle.books.specs.Books.{figuresOn, numbersOfSites}
 use Rattle.books.proofs.Blocks.{part-all, part-back, next-site}
 use Rattle.books.proofs.books_all.Statement.{statement}
 use Rattle.books.proofs.books_all.Tie as tie
 
 abbrev Inv-loop : tie.InvT-loop
 Inv-loop table n opening out₀ records s₀ out s =
-    (s ≤ n) × (length out ≡ length out₀) × (out ≡ numbersOfSites s (figuresOf opening) table records ++ drop (64 * s) out₀)
+    (s ≤ n) × (length out ≡ length out₀) × (out ≡ numbersOfSites s (figuresOn opening) table records ++ drop (64 * s) out₀)
 
 abbrev μ-loop : tie.MeasureT-loop
 μ-loop table n opening out₀ records s₀ out s = n - s
@@ -66,7 +66,7 @@ loop-again c =
       same-len-mid from (length (d .loop .out) - from) (d .loop .out) part (c .before .books .kept .1 .1 .1 .0) ∙ d .loop .inv .1,
       part-back from (d .loop .out) part
           ∙ rw (c .before .books .ensures, part-all, d .loop .inv .2)
-          (next-site (d .loop .s) (figuresOf (a .opening)) (a .table) (a .t2) (now (a .out))),
+          (next-site (d .loop .s) (figuresOn (a .opening)) (a .table) (a .t2) (now (a .out))),
     )
 
 same-length : tie.Need-same-length Inv-loop μ-loop
@@ -77,7 +77,7 @@ returns c =
     let a = c .before .before .args in
     let e : c .before .loop .s ≡ a .n = omega arith in
     c .before .loop .inv .2
-    ∙ ap (λ (n : ℕ). numbersOfSites n (figuresOf (a .opening)) (a .table) (a .t2) ++ drop (64 * n) (now (a .out))) e
+    ∙ ap (λ (n : ℕ). numbersOfSites n (figuresOn (a .opening)) (a .table) (a .t2) ++ drop (64 * n) (now (a .out))) e
 
 pub books-all-spec : {M : Type 1} → statement M
 books-all-spec =

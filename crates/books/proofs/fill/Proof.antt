@@ -7,13 +7,13 @@ use native.Mathlib.Omega.{arith}
 use lib.ListN.{length, drop}
 use denote.Ref.{now}
 use borrow.Author.Needs.{needs}
-use Rattle.books.specs.Books.{numbersTo, figuresOf}
+use Rattle.books.specs.Books.{numbersTo, figuresOn}
 use Rattle.books.proofs.Blocks.{next-account}
 use Rattle.books.proofs.fill.Statement.{statement}
 use Rattle.books.proofs.fill.Tie as tie
 
 abbrev Inv-loop : tie.InvT-loop
-Inv-loop out₀ sheet k₀ out k = (k ≤ 16) × (length out ≡ length out₀) × (out ≡ numbersTo k (figuresOf sheet) ++ drop (4 * k) out₀)
+Inv-loop out₀ sheet k₀ out k = (k ≤ 16) × (length out ≡ length out₀) × (out ≡ numbersTo k (figuresOn sheet) ++ drop (4 * k) out₀)
 
 abbrev μ-loop : tie.MeasureT-loop
 μ-loop out₀ sheet k₀ out k = 16 - k
@@ -46,7 +46,7 @@ loop-again c =
       omega arith,
       c .before .put .kept .1 .1 .0 ∙ d .loop .inv .1,
       c .before .put .ensures
-          ∙ rw (d .loop .inv .2) (next-account (d .loop .k) (figuresOf (d .before .args .t1)) (now (d .before .args .out))),
+          ∙ rw (d .loop .inv .2) (next-account (d .loop .k) (figuresOn (d .before .args .t1)) (now (d .before .args .out))),
     )
 
 same-length : tie.Need-same-length Inv-loop μ-loop
@@ -55,7 +55,7 @@ same-length c = c .before .loop .inv .1
 returns : tie.Need-returns Inv-loop μ-loop
 returns c =
     let e : c .before .loop .k ≡ 16 = omega arith in
-    c .before .loop .inv .2 ∙ ap (λ (k : ℕ). numbersTo k (figuresOf (c .before .before .args .t1)) ++ drop (4 * k) (now (c .before .before .args .out))) e
+    c .before .loop .inv .2 ∙ ap (λ (k : ℕ). numbersTo k (figuresOn (c .before .before .args .t1)) ++ drop (4 * k) (now (c .before .before .args .out))) e
 
 pub fill-spec : {M : Type 1} → statement M
 fill-spec =

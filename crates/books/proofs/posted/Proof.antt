@@ -13,7 +13,7 @@ use Rattle.posting.specs.declared.Record.{Record}
 use Rattle.posting.specs.Kinds.{accounts}
 use Rattle.posting.specs.Records.{numbersOf}
 use Rattle.posting.specs.Conflicts.{noPosting}
-use Rattle.books.specs.Books.{Books, post, books, figuresOf, sheetOf}
+use Rattle.books.specs.Books.{Books, post, books, figuresOn, sheetOf}
 use Rattle.books.specs.declared.Figures.{Figures}
 use Rattle.books.specs.declared.Sheet.{Sheet}
 use Rattle.books.specs.Bounds.{Postable}
@@ -22,7 +22,7 @@ use Rattle.books.proofs.posted.Statement.{statement}
 use Rattle.books.proofs.posted.Tie as tie
 
 abbrev Inv-loop : tie.InvT-loop
-Inv-loop table delivered sheet₀ count i₀ sheet i = (i ≤ count) × (sheet ≡ sheetOf (books (figuresOf sheet₀) table (take i (delivered .numbers))))
+Inv-loop table delivered sheet₀ count i₀ sheet i = (i ≤ count) × (sheet ≡ sheetOf (books (figuresOn sheet₀) table (take i (delivered .numbers))))
 
 abbrev μ-loop : tie.MeasureT-loop
 μ-loop table delivered sheet₀ count i₀ sheet i = count - i
@@ -35,7 +35,7 @@ module _ (c : tie.After-wide Inv-loop μ-loop) where
   delivered = c .before .before .before .before .args .t2
 
   abbrev opening : Books
-  opening = figuresOf (c .before .before .before .before .args .opening)
+  opening = figuresOn (c .before .before .before .before .args .opening)
 
   abbrev postable : Postable table delivered
   postable = c .before .before .before .before .pre .0
@@ -152,7 +152,7 @@ unfolding numbersOf
 returns c =
     let b = c .before .before in
     let e : c .before .loop .i ≡ b .args .t2 .count = omega arith in
-    c .before .loop .inv .1 ∙ ap (λ (n : ℕ). sheetOf (books (figuresOf (b .args .opening)) (b .args .t1) (take n (b .args .t2 .numbers)))) e
+    c .before .loop .inv .1 ∙ ap (λ (n : ℕ). sheetOf (books (figuresOn (b .args .opening)) (b .args .t1) (take n (b .args .t2 .numbers)))) e
 
 pub posted-spec : {M : Type 1} → statement M
 posted-spec =

@@ -8,12 +8,12 @@ use mathlib.Core.List.{List}
 use borrow.Author.Needs.{needs}
 use Rattle.sets.specs.declared.Set.{Set}
 use Rattle.sets.specs.Below.{allBelow}
-use Rattle.sets.specs.BelowLaws.{all-fails, all-none, all-more, all-end}
+use Rattle.sets.proofs.BelowLaws.{all-fails, all-none, all-more, all-end}
 use Rattle.posting.specs.declared.Table.{Table}
 use Rattle.posting.specs.Conflicts.{row}
 use Rattle.cells.specs.Cells.{cellSoundAt, block, blockSound}
 use Rattle.cells.proofs.Blocks.{cell-empty}
-use Rattle.sets.specs.Truth.{passed, failed}
+use Rattle.sets.proofs.Truth.{passed, failed}
 use Rattle.cells.proofs.block_ok.Statement.{statement}
 use Rattle.cells.proofs.block_ok.Tie as tie
 

@@ -7,7 +7,7 @@ use borrow.Author.Tests.{eq-eqb, ne-eqb, lt-ltb, le-ltb}
 use Rattle.sets.specs.Below.{allOf}
 use Rattle.cells.specs.Cells.{cellSound}
 use Rattle.cells.proofs.Blocks.{cell-empty}
-use Rattle.sets.specs.Truth.{passed, failed}
+use Rattle.sets.proofs.Truth.{passed, failed}
 use Rattle.cells.proofs.cell_ok.Statement.{statement}
 use Rattle.cells.proofs.cell_ok.Tie as tie
 

@@ -8,9 +8,9 @@ use borrow.Author.Needs.{needs}
 use Rattle.sets.specs.Below.{allBelow}
 use Rattle.flight.specs.Flights.{cells}
 use Rattle.cells.specs.Cells.{cellSoundAt, block, cellsSound}
-use Rattle.sets.specs.BelowLaws.{all-none, all-end}
+use Rattle.sets.proofs.BelowLaws.{all-none, all-end}
 use Rattle.cells.proofs.Blocks.{block-empty, block-more, block-fails}
-use Rattle.sets.specs.Truth.{passed, failed}
+use Rattle.sets.proofs.Truth.{passed, failed}
 use Rattle.cells.proofs.cells_ok.Statement.{statement}
 use Rattle.cells.proofs.cells_ok.Tie as tie
 

@@ -7,7 +7,7 @@ use lib.Dec.{eqb}
 use lib.Pow.{pow-mono}
 use borrow.Author.Needs.{needs}
 use borrow.Author.Tests.{ne-eqb}
-use Rattle.sets.specs.MaskLaws.{one-shl}
+use Rattle.sets.proofs.MaskLaws.{one-shl}
 use Rattle.cells.proofs.only_to.Statement.{statement}
 use Rattle.cells.proofs.only_to.Tie as tie
 

@@ -2,7 +2,7 @@
 -- Assumes nothing.
 use mathlib.Core.Path.{_≡_, refl, sym}
 use mathlib.Core.Bool.{false}
-use Rattle.sets.specs.Truth.{never}
+use Rattle.sets.proofs.Truth.{never}
 use Rattle.machine.specs.declared.Board.{Board}
 use Rattle.machine.proofs.Typed.{is-board}
 use Rattle.machine.proofs.SoundTest.{sound-facts}

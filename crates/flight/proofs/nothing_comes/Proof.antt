@@ -7,7 +7,7 @@ use lib.Dec.{eqb}
 use lib.ListN.{take, drop}
 use borrow.Author.Needs.{needs}
 use Rattle.flight.specs.Flights.{cells, nothingComes}
-use Rattle.flight.specs.SearchLaws.{comes-step, comes-end}
+use Rattle.flight.proofs.SearchLaws.{comes-step, comes-end}
 use Rattle.flight.proofs.Joined.{none-more}
 use Rattle.flight.proofs.nothing_comes.Statement.{statement}
 use Rattle.flight.proofs.nothing_comes.Tie as tie

@@ -2,7 +2,7 @@
 -- Assumes nothing.
 use mathlib.Core.Path.{sym}
 use borrow.Author.Needs.{needs}
-use Rattle.flight.specs.CellLaws.{pair-in}
+use Rattle.flight.proofs.CellLaws.{pair-in}
 use Rattle.flight.proofs.Places.{no-posting, no-sender}
 use Rattle.flight.proofs.pair.Statement.{statement}
 use Rattle.flight.proofs.pair.Tie as tie

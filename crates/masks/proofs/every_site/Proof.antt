@@ -5,7 +5,7 @@ use mathlib.Core.Path.{ap}
 use native.Mathlib.Omega.{arith}
 use lib.Pow.{suc-ones}
 use borrow.Author.Tests.{lt-ltb, le-ltb}
-use Rattle.sets.specs.MaskLaws.{one-shl}
+use Rattle.sets.proofs.MaskLaws.{one-shl}
 use Rattle.masks.specs.SiteMasks.{room, everySite}
 use borrow.Author.Needs.{needs}
 use Rattle.masks.proofs.every_site.Statement.{statement}

@@ -3,7 +3,7 @@
 use mathlib.Core.Path.{refl, sym}
 use native.Mathlib.Omega.{arith}
 use Rattle.sets.specs.Masks.{hasBit}
-use Rattle.sets.specs.MaskLaws.{has-bit-above}
+use Rattle.sets.proofs.MaskLaws.{has-bit-above}
 use borrow.Author.Needs.{needs}
 use Rattle.masks.proofs.has_site.Statement.{statement}
 use Rattle.masks.proofs.has_site.Tie as tie

@@ -2,7 +2,7 @@
 -- Assumes nothing.
 use native.Mathlib.Omega.{arith}
 use borrow.Author.Tests.{lt-ltb, le-ltb}
-use Rattle.sets.specs.MaskLaws.{one-shl}
+use Rattle.sets.proofs.MaskLaws.{one-shl}
 use Rattle.masks.specs.SiteMasks.{room, onlySite}
 use borrow.Author.Needs.{needs}
 use Rattle.masks.proofs.only_site.Statement.{statement}

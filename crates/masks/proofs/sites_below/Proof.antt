@@ -7,7 +7,7 @@ use lib.Dec.{ltb}
 use lib.Pow.{pow-mono}
 use borrow.Author.Needs.{needs}
 use borrow.Author.Tests.{lt-ltb}
-use Rattle.sets.specs.MaskLaws.{one-shl}
+use Rattle.sets.proofs.MaskLaws.{one-shl}
 use Rattle.masks.proofs.sites_below.Statement.{statement}
 use Rattle.masks.proofs.sites_below.Tie as tie
 

@@ -4,7 +4,7 @@ use mathlib.Core.Path.{sym}
 use native.Mathlib.Omega.{arith}
 use borrow.Author.Tests.{eq-eqb, ne-eqb, le-leb, lt-leb}
 use Rattle.posting.specs.Kinds.{trade, inRow}
-use Rattle.posting.specs.KindLaws.{row-one-account}
+use Rattle.posting.proofs.KindLaws.{row-one-account}
 use Rattle.posting.proofs.in_row.Statement.{statement}
 use Rattle.posting.proofs.in_row.Tie as tie
 

@@ -20,11 +20,11 @@ room c =
     let start = c .before .before .before .before .before .before in
     omega (arith, c .wide .ensures, good-sites (freshBoard (start .args .setup)) (start .pre .1))
 
-slice-aggregate-settle : tie.Need-slice-aggregate-settle
-slice-aggregate-settle c = search needs
+slice-aggregate-run-and-drain : tie.Need-slice-aggregate-run-and-drain
+slice-aggregate-run-and-drain c = search needs
 
-settle-requires : tie.Need-settle-requires
-settle-requires c κs = search needs
+run-and-drain-requires : tie.Need-run-and-drain-requires
+run-and-drain-requires c κs = search needs
 
 wide-requires : tie.Need-wide-requires
 wide-requires c κs = search needs
@@ -37,7 +37,7 @@ array-share-prefix-figures c = omega (arith, room c)
 
 slice-aggregate-print-statement : tie.Need-slice-aggregate-print-statement
 slice-aggregate-print-statement c =
-    let figures = c .before .before .before .settle .last .1 .1 .1 .0 in
+    let figures = c .before .before .before .run-and-drain .last .1 .1 .1 .0 in
     let h : 64 * c .before .wide .result ≤ length figures = omega (arith, room (c .before)) in
     sym (length-take-le (64 * c .before .wide .result) figures h)
 
@@ -51,7 +51,7 @@ returns : tie.Need-returns
 returns c =
     let start = c .before .before .before .before .before .before .before .before .before .before .before in
     let g = start .args in
-    let done = c .before .before .before .before .before .before .before .settle in
+    let done = c .before .before .before .before .before .before .before .run-and-drain in
     let n = c .before .before .before .before .before .wide in
     printed-as (g .out .now) (settled-text (g .setup) (callsOf (g .input .now)) (start .pre .0) _ (done .last .1 .1 .1 .0) (64 * n .result) (done .result .down) (done .ensures .1 .1 .1 .0) (done .ensures .1 .1 .1 .1) (done .ensures .1 .0) (ap (λ (k : ℕ). 64 * k) (n .ensures)) (room (c .before .before .before .before .before))) (c .before .before .print-statement .ensures)
 
@@ -59,8 +59,8 @@ pub state-from-spec : {M : Type 1} → statement M
 state-from-spec =
     tie.close
     (tie.spec
-    slice-aggregate-settle
-    settle-requires
+    slice-aggregate-run-and-drain
+    run-and-drain-requires
     wide-requires
     mul-count
     array-share-prefix-figures

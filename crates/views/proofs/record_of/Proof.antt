@@ -6,7 +6,7 @@ use native.Mathlib.Omega.{arith}
 use Rattle.sets.specs.Sets.{capacity}
 use Rattle.site.specs.Sites.{sites}
 use Rattle.arrays.specs.Layout.{recordAt}
-use Rattle.views.specs.Views.{recordOf}
+use Rattle.views.specs.Views.{recordIn}
 use borrow.Author.Needs.{needs}
 use Rattle.views.proofs.record_of.Statement.{statement}
 use Rattle.views.proofs.record_of.Tie as tie
@@ -30,7 +30,7 @@ element-copy-out-t9 : tie.Need-element-copy-out-t9
 element-copy-out-t9 c = search needs
 
 returns : tie.Need-returns
-unfolding recordOf
+unfolding recordIn
 returns c sets amounts masks good carried =
     let p = c .before .before .args .p in
     let at : recordAt p 0 ≡ 1 + 7 * capacity + 2 * (sites * capacity) + p * capacity = omega arith in

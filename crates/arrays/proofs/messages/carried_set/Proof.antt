@@ -8,7 +8,7 @@ use lib.ListN.{length, drop}
 use Rattle.sets.specs.declared.Set.{Set}
 use Rattle.sets.specs.Sets.{words, ofWords, emptySet}
 use Rattle.site.specs.Sites.{sites}
-use Rattle.flight.specs.CellLaws.{pair-in}
+use Rattle.flight.proofs.CellLaws.{pair-in}
 use Rattle.flight.specs.Flights.{wordsFrom}
 use Rattle.flight.proofs.Changes.{one-set}
 use Rattle.flight.proofs.Loads.{read-step, read-end}

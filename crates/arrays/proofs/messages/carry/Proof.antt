@@ -6,7 +6,7 @@ use native.Mathlib.Omega.{arith}
 use lib.ListN.{length, take}
 use lib.Seq.{sets}
 use Rattle.sets.specs.Sets.{words}
-use Rattle.flight.specs.CellLaws.{pair-in}
+use Rattle.flight.proofs.CellLaws.{pair-in}
 use Rattle.flight.proofs.Changes.{one-carried}
 use Rattle.flight.proofs.Loads.{store-step, store-end}
 use borrow.Author.Needs.{needs}

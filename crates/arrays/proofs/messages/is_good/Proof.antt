@@ -5,7 +5,7 @@ use mathlib.Core.Bool.{true}
 use native.Mathlib.Omega.{arith}
 use borrow.Author.Tests.{lt-ltb}
 use Rattle.sets.specs.Masks.{hasBit}
-use Rattle.flight.specs.CellLaws.{pair-in, pair-below}
+use Rattle.flight.proofs.CellLaws.{pair-in, pair-below}
 use Rattle.flight.specs.Flights.{pairs, pairAt}
 use borrow.Author.Needs.{needs}
 use Rattle.arrays.proofs.messages.is_good.Statement.{statement}

@@ -3,7 +3,7 @@
 use mathlib.Core.Path.{refl, sym}
 use native.Mathlib.Omega.{arith}
 use lib.Bits.{and-le-l}
-use Rattle.flight.specs.CellLaws.{pair-in}
+use Rattle.flight.proofs.CellLaws.{pair-in}
 use Rattle.flight.proofs.Changes.{one-good, one-bad}
 use borrow.Author.Needs.{needs}
 use Rattle.arrays.proofs.messages.say.Statement.{statement}

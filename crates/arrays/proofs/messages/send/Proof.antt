@@ -2,7 +2,7 @@
 -- Assumes nothing.
 use mathlib.Core.Path.{sym}
 use native.Mathlib.Omega.{arith}
-use Rattle.flight.specs.CellLaws.{cell-in}
+use Rattle.flight.proofs.CellLaws.{cell-in}
 use Rattle.flight.proofs.Changes.{one-sent}
 use borrow.Author.Needs.{needs}
 use Rattle.arrays.proofs.messages.send.Statement.{statement}

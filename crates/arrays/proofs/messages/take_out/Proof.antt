@@ -3,8 +3,8 @@
 use mathlib.Core.Path.{sym}
 use native.Mathlib.Omega.{arith}
 use lib.Bits.{and-le-l}
-use Rattle.sets.specs.MaskLaws.{one-shl}
-use Rattle.flight.specs.CellLaws.{cell-in}
+use Rattle.sets.proofs.MaskLaws.{one-shl}
+use Rattle.flight.proofs.CellLaws.{cell-in}
 use Rattle.flight.proofs.Changes.{one-taken}
 use borrow.Author.Needs.{needs}
 use Rattle.arrays.proofs.messages.take_out.Statement.{statement}

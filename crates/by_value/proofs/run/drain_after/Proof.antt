@@ -5,7 +5,7 @@ use Rattle.machine.specs.declared.Board.{Board}
 use Rattle.machine.specs.Calls.{refusalOf}
 use Rattle.drain.specs.Drain.{drained}
 use Rattle.decoder.specs.RunFile.{callsOf}
-use Rattle.by_value.proofs.DrainLaws.{no-room, all-done}
+use Rattle.counted.proofs.DrainLaws.{no-room, all-done}
 use borrow.Author.Needs.{needs}
 use Rattle.by_value.proofs.run.drain_after.Statement.{statement}
 use Rattle.by_value.proofs.run.drain_after.Tie as tie

@@ -2,7 +2,7 @@
 -- Assumes nothing.
 use mathlib.Core.Path.{sym, ap, _∙_}
 use Rattle.runfile.proofs.Programs.{startWith}
-use Rattle.by_value.proofs.DrainLaws.{malformed-none, start-none, start-drains}
+use Rattle.counted.proofs.DrainLaws.{malformed-none, start-none, start-drains}
 use borrow.Author.Needs.{needs}
 use Rattle.by_value.proofs.run.run_by_value.Statement.{statement}
 use Rattle.by_value.proofs.run.run_by_value.Tie as tie

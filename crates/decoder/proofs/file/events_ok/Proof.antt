@@ -8,7 +8,7 @@ use borrow.Author.Count.{below-none, below-more}
 use borrow.Author.Tests.{not-true, not-false}
 use borrow.Author.Needs.{needs}
 use native.Mathlib.Omega.{arith}
-use Rattle.sets.specs.BelowLaws.{all-from, all-fails}
+use Rattle.sets.proofs.BelowLaws.{all-from, all-fails}
 use Rattle.posting.proofs.Pairs.{is-false}
 use Rattle.decoder.proofs.Events.{event-part}
 use Rattle.decoder.specs.RunFile.{eventAt, eventCount, eventOk, eventsOk}

@@ -14,7 +14,7 @@ use Rattle.site.specs.Sends.{forms}
 use Rattle.flight.specs.declared.Found.{Found}
 use Rattle.flight.specs.declared.Found.the-variants.{Nothing, Message}
 use Rattle.flight.specs.Flights.{cells, lowestTo, lowestFrom}
-use Rattle.flight.specs.SearchLaws.{site-hit, site-miss, site-end, cell-step, cell-end}
+use Rattle.flight.proofs.SearchLaws.{site-hit, site-miss, site-end, cell-step, cell-end}
 use Rattle.arrays.specs.Layout.{countAt}
 use Rattle.arrays.specs.Arrays.{arrays}
 use Rattle.machine.specs.View.{view}

@@ -10,8 +10,9 @@ use Rattle.flight.specs.Flights.{cells}
 use Rattle.sets.specs.Below.{allOf}
 use Rattle.machine.specs.Soundness.{isSound}
 use Rattle.soundness.specs.Parts.{allOffered}
-use Rattle.machine.specs.SoundParts.{partsOf, basis-sites, sound-parts}
-use Rattle.sets.specs.Truth.{passed, failed}
+use Rattle.machine.specs.SoundParts.{partsOf}
+use Rattle.machine.proofs.SoundPartLaws.{basis-sites, sound-parts}
+use Rattle.sets.proofs.Truth.{passed, failed}
 use Rattle.machine.proofs.Board.is_sound.Statement.{statement}
 use Rattle.machine.proofs.Board.is_sound.Tie as tie
 

@@ -7,7 +7,7 @@ use lib.Dec.{ltb}
 use borrow.Author.Needs.{needs}
 use Rattle.sets.specs.Below.{allOf}
 use Rattle.machine.specs.SoundParts.{basisSound}
-use Rattle.sets.specs.Truth.{passed, failed}
+use Rattle.sets.proofs.Truth.{passed, failed}
 use Rattle.machine.proofs.sound.basis_ok.Statement.{statement}
 use Rattle.machine.proofs.sound.basis_ok.Tie as tie
 

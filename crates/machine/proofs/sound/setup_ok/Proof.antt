@@ -7,7 +7,7 @@ use borrow.Author.Tests.{lt-ltb, le-ltb, le-leb, lt-leb}
 use Rattle.posting.specs.Kinds.{hasFixedPairs}
 use Rattle.sets.specs.Below.{allOf}
 use Rattle.machine.specs.Soundness.{setupOk}
-use Rattle.sets.specs.Truth.{passed, failed}
+use Rattle.sets.proofs.Truth.{passed, failed}
 use Rattle.machine.proofs.sound.setup_ok.Statement.{statement}
 use Rattle.machine.proofs.sound.setup_ok.Tie as tie
 

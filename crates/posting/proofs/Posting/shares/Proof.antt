@@ -2,7 +2,7 @@
 -- Assumes nothing.
 use mathlib.Core.Path.{sym, _∙_}
 use borrow.Author.Needs.{needs}
-use Rattle.posting.specs.ConflictLaws.{shares-fields}
+use Rattle.posting.proofs.ConflictLaws.{shares-fields}
 use Rattle.posting.proofs.Posting.shares.Statement.{statement}
 use Rattle.posting.proofs.Posting.shares.Tie as tie
 

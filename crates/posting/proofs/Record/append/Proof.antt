@@ -2,7 +2,7 @@
 -- Assumes nothing.
 use mathlib.Core.Path.{sym}
 use borrow.Author.Needs.{needs}
-use Rattle.posting.specs.RecordLaws.{append-full, append-past, append-room}
+use Rattle.posting.proofs.RecordLaws.{append-full, append-past, append-room}
 use Rattle.posting.proofs.Record.append.Statement.{statement}
 use Rattle.posting.proofs.Record.append.Tie as tie
 

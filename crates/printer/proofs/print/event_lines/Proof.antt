@@ -7,7 +7,7 @@ use lib.Seq.{take-length}
 use borrow.Author.Needs.{needs}
 use native.Mathlib.Omega.{arith}
 use Rattle.printer.specs.Output.{eventLines}
-use Rattle.printer.specs.Writing.{Put}
+use Rattle.printer.specs.Puts.{Put}
 use Rattle.printer.proofs.Writing.{nothing-put, then-put, put-as, put-length}
 use Rattle.printer.proofs.Texts.{line-more}
 use Rattle.printer.proofs.print.event_lines.Statement.{statement}

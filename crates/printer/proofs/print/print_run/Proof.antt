@@ -7,9 +7,9 @@ use lib.ListN.{length}
 use borrow.Author.Needs.{needs}
 use borrow.Author.Tests.{ltb-true, leb-true}
 use native.Mathlib.Omega.{arith}
-use Rattle.sets.specs.Truth.{and-left, and-right}
+use Rattle.sets.proofs.Truth.{and-left, and-right}
 use Rattle.printer.specs.Output.{printedOf}
-use Rattle.printer.specs.Writing.{mostEvents, longestRun}
+use Rattle.printer.specs.Puts.{mostEvents, longestRun}
 use Rattle.printer.proofs.Writing.{at-once, too-short, written}
 use Rattle.printer.proofs.Lengths.{printed-length}
 use Rattle.printer.proofs.Typed.{is-shown}

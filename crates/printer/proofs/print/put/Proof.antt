@@ -4,7 +4,7 @@ use mathlib.Core.Path.{sym}
 use lib.Seq.{set-out}
 use borrow.Author.Tests.{lt-ltb, le-ltb}
 use borrow.Author.Needs.{needs}
-use Rattle.printer.specs.Writing.{lastPlace, after, putting}
+use Rattle.printer.specs.Puts.{lastPlace, after, putting}
 use Rattle.printer.proofs.print.put.Statement.{statement}
 use Rattle.printer.proofs.print.put.Tie as tie
 

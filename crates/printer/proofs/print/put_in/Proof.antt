@@ -5,7 +5,7 @@ use mathlib.Core.Path.{refl}
 use borrow.Author.Tests.{lt-ltb}
 use borrow.Author.Needs.{needs}
 use native.Mathlib.Omega.{arith}
-use Rattle.printer.specs.Writing.{lastPlace, after, putting}
+use Rattle.printer.specs.Puts.{lastPlace, after, putting}
 use Rattle.printer.proofs.print.put_in.Statement.{statement}
 use Rattle.printer.proofs.print.put_in.Tie as tie
 

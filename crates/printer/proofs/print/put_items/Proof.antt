@@ -10,7 +10,7 @@ use native.Mathlib.Omega.{arith}
 use Rattle.sets.specs.Sets.{capacity}
 use Rattle.posting.specs.Records.{numbersOf}
 use Rattle.printer.specs.Output.{items, space, decimal}
-use Rattle.printer.specs.Writing.{Put}
+use Rattle.printer.specs.Puts.{Put}
 use Rattle.printer.proofs.Writing.{nothing-put, then-put, put-as, put-length}
 use Rattle.printer.proofs.Texts.{item-more}
 use Rattle.printer.proofs.print.put_items.Statement.{statement}

@@ -7,7 +7,7 @@ use lib.ListN.{length, take}
 use lib.Seq.{take-suc, take-length}
 use borrow.Author.Needs.{needs}
 use native.Mathlib.Omega.{arith}
-use Rattle.printer.specs.Writing.{Put}
+use Rattle.printer.specs.Puts.{Put}
 use Rattle.printer.proofs.Writing.{nothing-put, then-put, put-as, put-length}
 use Rattle.printer.proofs.print.put_text.Statement.{statement}
 use Rattle.printer.proofs.print.put_text.Tie as tie

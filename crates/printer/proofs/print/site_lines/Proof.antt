@@ -6,7 +6,7 @@ use native.Mathlib.Numerals.{add-one}
 use borrow.Author.Needs.{needs}
 use native.Mathlib.Omega.{arith}
 use Rattle.printer.specs.Output.{siteLines}
-use Rattle.printer.specs.Writing.{Put}
+use Rattle.printer.specs.Puts.{Put}
 use Rattle.printer.proofs.Writing.{nothing-put, then-put, put-as, put-length}
 use Rattle.printer.proofs.print.site_lines.Statement.{statement}
 use Rattle.printer.proofs.print.site_lines.Tie as tie

@@ -2,7 +2,7 @@
 -- Assumes nothing.
 use borrow.Author.Needs.{needs}
 use borrow.Author.Tests.{lt-ltb, le-ltb}
-use Rattle.printer.specs.Writing.{mostEvents}
+use Rattle.printer.specs.Puts.{mostEvents}
 use Rattle.printer.proofs.print.surely_fits.Statement.{statement}
 use Rattle.printer.proofs.print.surely_fits.Tie as tie
 

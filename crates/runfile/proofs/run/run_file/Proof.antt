@@ -1,19 +1,12 @@
 -- `run_file` meets its contract.
 -- Assumes nothing.
-use mathlib.Core.Path.{sym, _∙_}
-use Rattle.runfile.proofs.Programs.{few-events, printed-as, malformed-printed, refused-printed, taken-printed, start-stays}
+use Rattle.runfile.proofs.Programs.{printed-as, begun-runs, refused-printed, taken-printed}
 use borrow.Author.Needs.{needs}
 use Rattle.runfile.proofs.run.run_file.Statement.{statement}
 use Rattle.runfile.proofs.run.run_file.Tie as tie
 
-well-formed-requires : tie.Need-well-formed-requires
-well-formed-requires c κs = search needs
-
-setup-of-requires : tie.Need-setup-of-requires
-setup-of-requires c κs = search needs
-
-start-refusal-requires : tie.Need-start-refusal-requires
-start-refusal-requires c κs = search needs
+begin-requires : tie.Need-begin-requires
+begin-requires c κs = search needs
 
 print-refused-requires : tie.Need-print-refused-requires
 print-refused-requires c κs = search needs
@@ -23,49 +16,34 @@ same-length c = search needs
 
 returns : tie.Need-returns
 returns c =
-    let g = c .before .before .before .before .before .before .before .before .before .before .before .args in
-    let well = sym (c .before .before .before .before .before .before .before .before .well-formed .ensures) ∙ c .before .before .before .before .before .before .before .if1 .taken in
-    printed-as (g .out .now) (refused-printed _ _ (c .before .before .before .before .before .start-refusal .ensures) (g .input .now) (c .before .before .before .before .before .before .setup-of .ensures) well (c .before .before .before .before .if2 .taken)) (c .before .before .print-refused .ensures)
+    let g = c .before .before .before .before .before .before .before .before .before .args in
+    let begun = c .before .before .before .before .before .before .begin in
+    printed-as (g .out .now) (refused-printed (g .input .now) (begun .result) (begun .ensures) (c .before .before .before .before .if1 .taken)) (c .before .before .print-refused .ensures)
 
 run-from-requires : tie.Need-run-from-requires
 run-from-requires c κs =
-    let g = c .before .before .before .before .before .before .before .before .args in
-    let well = sym (c .before .before .before .before .before .well-formed .ensures) ∙ c .before .before .before .before .if1 .taken in
-    (start-stays _ _ (c .before .before .start-refusal .ensures) (c .before .if2 .left), few-events (g .input .now) well)
+    let g = c .before .before .before .before .before .before .args in
+    let begun = c .before .before .before .begin in
+    let (stays, good, few) = begun-runs (g .input .now) (begun .result) (begun .ensures) (c .before .if1 .left) in
+    (stays, few)
 
 same-length-2 : tie.Need-same-length-2
 same-length-2 c = search needs
 
 returns-2 : tie.Need-returns-2
 returns-2 c =
-    let g = c .before .before .before .before .before .before .before .before .before .before .before .args in
-    let well = sym (c .before .before .before .before .before .before .before .before .well-formed .ensures) ∙ c .before .before .before .before .before .before .before .if1 .taken in
-    printed-as (g .out .now) (taken-printed _ _ (c .before .before .before .before .before .start-refusal .ensures) (g .input .now) (c .before .before .before .before .before .before .setup-of .ensures) well (c .before .before .before .before .if2 .left)) (c .before .before .run-from .ensures)
-
-print-refused-requires-2 : tie.Need-print-refused-requires-2
-print-refused-requires-2 c κs = search needs
-
-same-length-3 : tie.Need-same-length-3
-same-length-3 c = search needs
-
-returns-3 : tie.Need-returns-3
-returns-3 c =
-    let g = c .before .before .before .before .before .before .before .before .args in
-    printed-as (g .out .now) (malformed-printed (g .input .now) (sym (c .before .before .before .before .before .well-formed .ensures) ∙ c .before .before .before .before .if1 .left)) (c .before .before .print-refused2 .ensures)
+    let g = c .before .before .before .before .before .before .before .before .before .args in
+    let begun = c .before .before .before .before .before .before .begin in
+    printed-as (g .out .now) (taken-printed (g .input .now) (begun .result) (begun .ensures) (c .before .before .before .before .if1 .left)) (c .before .before .run-from .ensures)
 
 pub run-file-spec : {M : Type 1} → statement M
 run-file-spec =
     tie.close
     (tie.spec
-    well-formed-requires
-    setup-of-requires
-    start-refusal-requires
+    begin-requires
     print-refused-requires
     same-length
     returns
     run-from-requires
     same-length-2
-    returns-2
-    print-refused-requires-2
-    same-length-3
-    returns-3)
+    returns-2)

@@ -1,7 +1,7 @@
 -- `pass_second` meets its contract.
 -- Assumes nothing.
 use native.Mathlib.Omega.{arith}
-use Rattle.sets.specs.MaskLaws.{one-shl}
+use Rattle.sets.proofs.MaskLaws.{one-shl}
 use Rattle.arrays.specs.Arrays.{arrays}
 use Rattle.seconds.proofs.OnSecond.{passed-refused, passed-done}
 use borrow.Author.Needs.{needs}

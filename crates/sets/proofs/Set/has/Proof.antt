@@ -6,7 +6,7 @@ use lib.ListN.{length}
 use borrow.Author.Needs.{needs}
 use Rattle.sets.specs.Masks.{hasBit}
 use Rattle.sets.specs.Words.{member}
-use Rattle.sets.specs.WordLaws.{member-past}
+use Rattle.sets.proofs.WordLaws.{member-past}
 use Rattle.sets.specs.Sets.{words}
 use Rattle.sets.proofs.Set.has.Statement.{statement}
 use Rattle.sets.proofs.Set.has.Tie as tie

@@ -6,9 +6,9 @@ use native.Mathlib.Omega.{arith}
 use lib.ListN.{length, set}
 use lib.Bits.{bitOr}
 use borrow.Author.Needs.{needs}
-use Rattle.sets.specs.MaskLaws.{one-shl}
+use Rattle.sets.proofs.MaskLaws.{one-shl}
 use Rattle.sets.specs.Words.{word, insert}
-use Rattle.sets.specs.WordLaws.{insert-past}
+use Rattle.sets.proofs.WordLaws.{insert-past}
 use Rattle.sets.specs.Sets.{words, ofWords}
 use Rattle.sets.proofs.Set.with.Statement.{statement}
 use Rattle.sets.proofs.Set.with.Tie as tie

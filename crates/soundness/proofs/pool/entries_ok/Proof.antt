@@ -9,11 +9,11 @@ use lib.ListN.{getD}
 use borrow.Author.Needs.{needs}
 use Rattle.sets.specs.declared.Set.{Set}
 use Rattle.sets.specs.Below.{allBelow}
-use Rattle.sets.specs.BelowLaws.{all-fails, all-none, all-more, all-end}
+use Rattle.sets.proofs.BelowLaws.{all-fails, all-none, all-more, all-end}
 use Rattle.sets.specs.Sets.{capacity, has, subset}
 use Rattle.site.specs.Sites.{noSet}
 use Rattle.soundness.specs.Parts.{entrySound, entriesSound}
-use Rattle.sets.specs.Truth.{passed, failed}
+use Rattle.sets.proofs.Truth.{passed, failed}
 use Rattle.soundness.proofs.pool.entries_ok.Statement.{statement}
 use Rattle.soundness.proofs.pool.entries_ok.Tie as tie
 

@@ -5,7 +5,7 @@ use mathlib.Core.Bool.{and-true}
 use borrow.Author.Needs.{needs}
 use Rattle.sets.specs.Below.{allOf}
 use Rattle.soundness.specs.Parts.{poolSound}
-use Rattle.sets.specs.Truth.{passed, failed}
+use Rattle.sets.proofs.Truth.{passed, failed}
 use Rattle.soundness.proofs.pool.pool_ok.Statement.{statement}
 use Rattle.soundness.proofs.pool.pool_ok.Tie as tie
 

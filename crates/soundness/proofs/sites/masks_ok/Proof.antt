@@ -8,10 +8,10 @@ use mathlib.Core.List.{List}
 use lib.ListN.{getD}
 use borrow.Author.Needs.{needs}
 use Rattle.sets.specs.Below.{allBelow}
-use Rattle.sets.specs.BelowLaws.{all-fails, all-none, all-more, all-end}
+use Rattle.sets.proofs.BelowLaws.{all-fails, all-none, all-more, all-end}
 use Rattle.sets.specs.Sets.{capacity}
 use Rattle.soundness.specs.Parts.{maskSound, masksSound}
-use Rattle.sets.specs.Truth.{passed, failed}
+use Rattle.sets.proofs.Truth.{passed, failed}
 use Rattle.soundness.proofs.sites.masks_ok.Statement.{statement}
 use Rattle.soundness.proofs.sites.masks_ok.Tie as tie
 

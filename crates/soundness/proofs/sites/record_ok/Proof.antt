@@ -8,7 +8,7 @@ use lib.ListN.{length}
 use borrow.Author.Needs.{needs}
 use Rattle.sets.specs.Sets.{capacity}
 use Rattle.soundness.proofs.Turns.{firstOf, Checked, checked-none, checked-more, record-long, record-not-offered, record-twice, record-end}
-use Rattle.sets.specs.Truth.{passed, failed}
+use Rattle.sets.proofs.Truth.{passed, failed}
 use Rattle.soundness.proofs.sites.record_ok.Statement.{statement}
 use Rattle.soundness.proofs.sites.record_ok.Tie as tie
 

@@ -6,7 +6,7 @@ use lib.Dec.{leb}
 use borrow.Author.Needs.{needs}
 use Rattle.sets.specs.Below.{allOf}
 use Rattle.soundness.specs.Parts.{siteSound}
-use Rattle.sets.specs.Truth.{passed, failed}
+use Rattle.sets.proofs.Truth.{passed, failed}
 use Rattle.soundness.proofs.sites.site_ok.Statement.{statement}
 use Rattle.soundness.proofs.sites.site_ok.Tie as tie
 

@@ -9,12 +9,12 @@ use lib.ListN.{getD}
 use borrow.Author.Needs.{needs}
 use Rattle.sets.specs.declared.Set.{Set}
 use Rattle.sets.specs.Below.{allBelow}
-use Rattle.sets.specs.BelowLaws.{all-fails, all-none, all-more, all-end}
+use Rattle.sets.proofs.BelowLaws.{all-fails, all-none, all-more, all-end}
 use Rattle.sets.specs.Sets.{capacity}
 use Rattle.site.specs.declared.Tally.{Tally}
 use Rattle.site.specs.Sites.{noTally}
 use Rattle.soundness.specs.Parts.{tallySound, talliesSound}
-use Rattle.sets.specs.Truth.{passed, failed}
+use Rattle.sets.proofs.Truth.{passed, failed}
 use Rattle.soundness.proofs.sites.tallies_ok.Statement.{statement}
 use Rattle.soundness.proofs.sites.tallies_ok.Tie as tie
 

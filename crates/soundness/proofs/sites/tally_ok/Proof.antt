@@ -6,7 +6,7 @@ use borrow.Author.Needs.{needs}
 use Rattle.sets.specs.Sets.{subset}
 use Rattle.sets.specs.Below.{allOf}
 use Rattle.soundness.specs.Parts.{tallySound}
-use Rattle.sets.specs.Truth.{passed, failed}
+use Rattle.sets.proofs.Truth.{passed, failed}
 use Rattle.soundness.proofs.sites.tally_ok.Statement.{statement}
 use Rattle.soundness.proofs.sites.tally_ok.Tie as tie
 

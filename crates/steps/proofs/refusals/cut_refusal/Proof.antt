@@ -4,7 +4,7 @@ use mathlib.Core.Path.{sym}
 use native.Mathlib.Omega.{arith}
 use lib.Count.{ones-le}
 use borrow.Author.Tests.{le-leb, lt-leb, le-ltb, lt-ltb}
-use Rattle.steps.specs.Causes.{firstCause}
+use Rattle.steps.specs.CauseLists.{firstCause}
 use borrow.Author.Needs.{needs}
 use Rattle.steps.proofs.ByCase.{whole-cut}
 use Rattle.steps.proofs.refusals.cut_refusal.Statement.{statement}

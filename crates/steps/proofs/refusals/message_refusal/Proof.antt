@@ -2,7 +2,7 @@
 -- Assumes nothing.
 use borrow.Author.Tests.{eq-eqb, ne-eqb, le-leb, lt-leb}
 use Rattle.sets.specs.Masks.{hasBit}
-use Rattle.steps.specs.Causes.{firstCause}
+use Rattle.steps.specs.CauseLists.{firstCause}
 use borrow.Author.Needs.{needs}
 use Rattle.steps.proofs.refusals.message_refusal.Statement.{statement}
 use Rattle.steps.proofs.refusals.message_refusal.Tie as tie

@@ -2,7 +2,7 @@
 -- Assumes nothing.
 use mathlib.Core.Path.{sym, _∙_}
 use borrow.Author.Tests.{le-leb, lt-leb}
-use Rattle.steps.specs.Causes.{firstCause}
+use Rattle.steps.specs.CauseLists.{firstCause}
 use borrow.Author.Needs.{needs}
 use Rattle.steps.proofs.refusals.offer_refusal.Statement.{statement}
 use Rattle.steps.proofs.refusals.offer_refusal.Tie as tie

@@ -1,7 +1,7 @@
 -- `on_third` meets its contract.
 -- Assumes nothing.
 use Rattle.arrays.specs.Arrays.{arrays}
-use Rattle.thirds.proofs.OnThird.{third-late, third-settled}
+use Rattle.thirds.proofs.OnThird.{third-late, third-concluded}
 use borrow.Author.Needs.{needs}
 use Rattle.thirds.proofs.third.on_third.Statement.{statement}
 use Rattle.thirds.proofs.third.on_third.Tie as tie
@@ -72,8 +72,8 @@ load-requires c κs = search needs
 join-requires : tie.Need-join-requires
 join-requires c κs = search needs
 
-settle-third-requires : tie.Need-settle-third-requires
-settle-third-requires c κs = search needs
+conclude-third-requires : tie.Need-conclude-third-requires
+conclude-third-requires c κs = search needs
 
 returns-2 : tie.Need-returns-2
 returns-2 c =
@@ -88,11 +88,11 @@ returns-2 c =
     let done = isLate .before in
     let a = done .before .before .before .args in
     λ counts amounts good.
-    rw (third-settled (a .setup) (arrays (a .words .now) counts (a .bytes .now) amounts (a .masks .now) good (a .carried .now)) (a .m)
+    rw (third-concluded (a .setup) (arrays (a .words .now) counts (a .bytes .now) amounts (a .masks .now) good (a .carried .now)) (a .m)
     (a .from) (a .to) (a .cut) _ _
     (done .has-in .ensures) (isLate .late .ensures) _ _ _ _ _ _ (early .if1 .left) (load .carried-set .ensures)
     (heard .with-site .ensures) (holds .has .ensures) (holders .with-site-if .ensures) (old .load .ensures) (union .join .ensures))
-    (c .settle-third .ensures counts amounts good)
+    (c .conclude-third .ensures counts amounts good)
 
 pub on-third-spec : {M : Type 1} → statement M
 on-third-spec =
@@ -117,5 +117,5 @@ on-third-spec =
     add-load
     load-requires
     join-requires
-    settle-third-requires
+    conclude-third-requires
     returns-2)

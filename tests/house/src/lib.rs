@@ -1,0 +1,9 @@
+// Holds: the parts of this package.
+// Rests on: std.
+
+pub mod believed;
+pub mod headers;
+pub mod laws;
+pub mod names;
+pub mod promises;
+pub mod tree;

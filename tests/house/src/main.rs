@@ -1,0 +1,25 @@
+// Holds: prints what must be believed, a row a file, and how many lines it has.
+// Rests on: believed.
+
+use house::believed::{all, service, statement, Believed};
+
+fn say(what: &str, found: &Believed) {
+    let total = found.total();
+    println!(
+        "{what}: {} files and types, {} lines of definitions, {} with comments and the names brought in",
+        found.files.len(),
+        total.defining,
+        total.all
+    );
+}
+
+fn main() {
+    let found = all();
+    print!("{}", found.table());
+    say("demand 3's statement", &statement());
+    say("with every promise of the service", &service());
+    say("with what is exported for tests", &found);
+    for fault in &found.faults {
+        println!("fault: {fault}");
+    }
+}
