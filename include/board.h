@@ -19,6 +19,9 @@ extern "C" {
    Every function takes any numbers and any bytes. What it does not do it refuses by its answer, and leaves every slice
    as it was. Where it writes to the first elements of a slice, those beyond stay.
 
+   STACK. board_run_by_value takes some 750 kB of the caller's stack and board_call_changed 1.1 MB; every other function
+   takes less than 150 kB. Nothing is allocated.
+
    A POSTING has an owner (the site that offered it), a kind, accounts a and b, and an amount. Accounts are 0 to 15.
 
      kind 0, TRADE   a and b differ, amount 1 to 1,000,000,000 cents
@@ -54,8 +57,8 @@ extern "C" {
    that of posting m. The owner is not looked at by the functions below.
 
    A RECORD is a byte for each posting delivered, its number, in order. RECORDS OF SITES are BOARD_RECORD bytes for each
-   site, site 0 first: how many postings its record has, then BOARD_POSTINGS bytes, of which the first so many are the
-   record and the others are not looked at.
+   site, site 0 first: how many postings its record has, in BOARD_RECORD_COUNT bytes, the highest first;
+   then BOARD_POSTINGS bytes, of which the first so many are the record and the others are not looked at.
 
    BOOKS of a record are BOARD_FIGURES numbers, four for each account: of account k the position at 4k, the rate at
    4k + 1, called at 4k + 2, settled at 4k + 3. Position, called and settled are in cents, the rate is per 10,000. In the
@@ -66,15 +69,16 @@ extern "C" {
    A BOARD AS A ROW OF NUMBERS is BOARD_NUMBERS numbers of 64 bits; docs/FORMATS.md has the place of each. */
 
 #define BOARD_SITES 7
-#define BOARD_POSTINGS 64
-#define BOARD_WORDS 1
+#define BOARD_POSTINGS 256
+#define BOARD_WORDS 4
 #define BOARD_FIGURES 64
 #define BOARD_HEADER 9
 #define BOARD_EVENT 10
 #define BOARD_EVENTS 4096
 #define BOARD_ROW 8
-#define BOARD_RECORD (1 + BOARD_POSTINGS)
-#define BOARD_NUMBERS 4728
+#define BOARD_RECORD_COUNT 2
+#define BOARD_RECORD (BOARD_RECORD_COUNT + BOARD_POSTINGS)
+#define BOARD_NUMBERS 25764
 
 /* ANSWERS. Of a function that answers `uint8_t`: done, or refused. */
 #define BOARD_DONE 0
@@ -106,7 +110,7 @@ extern "C" {
    Where several apply it is the lowest. A run file itself is refused with 1 to 5, an event of it with 7 to 15. */
 
 /* A drain with this limit ends quiet on every board that a run file leaves. */
-#define BOARD_DRAIN_LIMIT 6784
+#define BOARD_DRAIN_LIMIT 27136
 
 /* No run file makes `board` print more bytes than this. */
 #define BOARD_TEXT 65536

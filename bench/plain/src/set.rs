@@ -2,10 +2,10 @@
 // Rests on: nothing.
 
 pub const SITES: usize = 7;
-pub const POSTINGS: usize = 64;
+pub const POSTINGS: usize = 256;
 
 /// The words of a set; a word has 64 postings.
-pub const WORDS: usize = 1;
+pub const WORDS: usize = 4;
 
 /// Posting m is bit m % 64 of word m / 64.
 #[derive(Clone, Copy, PartialEq, Eq)]

@@ -10,7 +10,7 @@ use text::statement::DRAIN;
 
 const SEED: u64 = 1;
 const SITE_COUNTS: [u8; 3] = [3, 5, 7];
-const POSTING_COUNTS: [usize; 3] = [8, 32, 64];
+const POSTING_COUNTS: [usize; 4] = [8, 32, 64, 256];
 const ACCOUNTS: u64 = 16;
 
 /// One board size with one number of postings.
@@ -57,7 +57,7 @@ fn conflicting(rng: &mut Prng, n: u8, postings: usize) -> Case {
     Case::new(n, postings, 1, carried, offered)
 }
 
-/// The mixed ones, rising in size; then one in which all postings conflict.
+/// The mixed ones, rising in size; then two in which all postings conflict.
 pub fn cases() -> Vec<Case> {
     let mut rng = Prng::new(SEED);
     let mut cases = Vec::new();
@@ -66,7 +66,9 @@ pub fn cases() -> Vec<Case> {
             cases.push(mixed(&mut rng, n, postings));
         }
     }
-    cases.push(conflicting(&mut rng, 7, 64));
+    for postings in [64, 256] {
+        cases.push(conflicting(&mut rng, 7, postings));
+    }
     cases
 }
 

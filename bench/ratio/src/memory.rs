@@ -2,7 +2,7 @@
 // Rests on: cases, sides; /proc/self/status.
 
 use crate::cases::Case;
-use crate::sides::SIDES;
+use crate::sides::{PROVED, SIDES};
 use std::io::{Read, Write};
 use std::process::{Command, ExitStatus, Stdio};
 use std::{env, fs};
@@ -26,6 +26,10 @@ pub fn show_own(name: &str) {
             side.on_file(&input)();
         } else if name == format!("{}, drain", side.name) {
             side.on_drain(&input)();
+        } else if name == format!("{}, by value", side.name) {
+            side.by_value(&input)();
+        } else if name == format!("{}, changed", side.name) {
+            side.changed(&input)();
         }
     }
     println!("{name:18}  {:>8}  {:>8}", status("VmHWM"), status("VmStk"));
@@ -53,6 +57,12 @@ pub fn table(case: &Case) {
     for side in &SIDES {
         calls.push((format!("{}, run file", side.name), &case.carried));
         calls.push((format!("{}, drain", side.name), &case.offered));
+        // The others have no calls by value.
+        if side.name == PROVED {
+            for call in ["by value", "changed"] {
+                calls.push((format!("{}, {call}", side.name), &case.offered));
+            }
+        }
     }
     for (name, input) in calls {
         let done = measure(&name, input);

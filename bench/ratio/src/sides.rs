@@ -3,8 +3,9 @@
 
 use crate::cases::Case;
 use model::prng::Prng;
+use model::runfile::EVENT;
 use model::{FIGURES, MAX_EVENTS, SITES};
-use programs::programs::{Programs, MODEL};
+use programs::programs::{Drains, Programs, FILLED, MODEL};
 use std::hint::black_box;
 use text::statement::DRAIN;
 
@@ -70,7 +71,33 @@ impl Side {
 
     /// A call that plays a run file, drains the board to quiet, and fills in the books of all sites.
     pub fn on_drain<'a>(&self, input: &'a [u8]) -> Box<dyn FnMut() + 'a> {
-        let run_drain = self.programs.run_drain;
+        Side::draining(self.programs.run_drain, input)
+    }
+
+    /// The same by calls that take the board by value.
+    pub fn by_value<'a>(&self, input: &'a [u8]) -> Box<dyn FnMut() + 'a> {
+        Side::draining(self.programs.run_by_value, input)
+    }
+
+    /// A drain of the board that the file leaves, by value, with the board handed back.
+    pub fn changed<'a>(&self, input: &'a [u8]) -> Box<dyn FnMut() + 'a> {
+        let call_changed = self.programs.call_changed;
+        let mut board = vec![0; FILLED];
+        Box::new(move || {
+            let drain = [0; EVENT];
+            black_box(call_changed(
+                input,
+                u64::MAX,
+                0,
+                &drain,
+                DRAIN,
+                &mut [],
+                &mut board,
+            ));
+        })
+    }
+
+    fn draining(run_drain: Drains, input: &[u8]) -> Box<dyn FnMut() + '_> {
         let mut out = vec![0; FIGURES * SITES];
         Box::new(move || {
             black_box(run_drain(black_box(input), DRAIN, &mut out));

@@ -1,4 +1,4 @@
--- A drain is the run of its events: it counts them, ends quiet or spent, and 6,784 is always enough. Lists with drains are lists of calls.
+-- A drain is the run of its events: it counts them, ends quiet or spent, and 27,136 is always enough. Lists with drains are lists of calls.
 -- Rests on Agreement, Drains, Simulated and Proved, on drain. Assumes nothing.
 use Prim.Native.Nat.{ℕ, zero, suc, _+_, _*_, _<_, _≤_}
 use mathlib.Core.Path.{_≡_, refl, sym, ap, _∙_, subst}
@@ -155,7 +155,7 @@ module _ (setup : Setup) (ok : setupOk setup ≡ true) (calls : List Call) (limi
       omega arith
 
   -- all that was accepted before, with the events and one more, are too many
-  too-many : (c : Call) → 6784 ≤ length (eventsOf limit b) → accepted (taking (running b (eventsOf limit b)) c .answer) ≡ true → isAction c ≡ true → ⊥
+  too-many : (c : Call) → 27136 ≤ length (eventsOf limit b) → accepted (taking (running b (eventsOf limit b)) c .answer) ≡ true → isAction c ≡ true → ⊥
   too-many c many taken act =
       let events = eventsOf limit b in
       let more = calls ++ (events ++ (c ∷ [])) in
@@ -194,7 +194,7 @@ module _ (setup : Setup) (ok : setupOk setup ≡ true) (calls : List Call) (limi
     ];
   }
     where
-      spent : 6784 ≤ limit → length (eventsOf limit b) ≡ limit → isQuiet (drained b limit .board) ≡ false → ⊥
+      spent : 27136 ≤ limit → length (eventsOf limit b) ≡ limit → isQuiet (drained b limit .board) ≡ false → ⊥
       spent h e q =
           let end : Good (running b (eventsOf limit b)) = run-good b (eventsOf limit b) good in
           let loud : isQuiet (running b (eventsOf limit b)) ≡ false = ap isQuiet (sym (it .runs)) ∙ q in
@@ -202,6 +202,10 @@ module _ (setup : Setup) (ok : setupOk setup ≡ true) (calls : List Call) (limi
             | inl none-left ↦ never (next-none (running b (eventsOf limit b)) end none-left) loud
             | inr c ↦ too-many (c .0) (omega arith) ((next-accepted (running b (eventsOf limit b)) end (c .0) (c .1)) .0) (next-acts (running b (eventsOf limit b)) end (c .0) (c .1))
           ]
+
+-- The number is that of as many postings as a board holds, at the ceiling of seven sites.
+pub drain-limit : capacity * ceilingOf 7 ≡ 27136
+drain-limit = refl
 
 -- ---- lists with drains among the calls
 

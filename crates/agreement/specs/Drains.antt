@@ -65,5 +65,5 @@ pub record DrainSays (b : Board) (limit : ℕ) : Type 0 where
   -- it ends quiet; or spent, with exactly the limit done, and the board not quiet
   pub ends : ((drained b limit .ending ≡ Quiet) × (isQuiet (drained b limit .board) ≡ true))
       ⊎ ((drained b limit .ending ≡ Spent) × (drained b limit .count ≡ limit) × (isQuiet (drained b limit .board) ≡ false))
-  -- the most that any board needs: 64 postings of 2 · 7² + 7 + 1 events
-  pub enough : 6784 ≤ limit → drained b limit .ending ≡ Quiet
+  -- the most that any board needs: 256 postings of 2 · 7² + 7 + 1 events
+  pub enough : 27136 ≤ limit → drained b limit .ending ≡ Quiet

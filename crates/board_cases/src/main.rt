@@ -18,4 +18,5 @@ fn main() {
     print_case(1);
     print_case(2);
     print_case(3);
+    print_case(4);
 }

@@ -22,7 +22,7 @@ use Rattle.books.specs.Books.{tabulate, noRecord}
 use Rattle.books.specs.Books as of-books
 use Rattle.books.specs.Bounds.{Postable}
 use Rattle.books.proofs.Lists.{getD-tabulate, length-tabulate}
-use Rattle.by_bytes.specs.Bytes.{byteAt, rowAt, rowCount, tableOf, recordAt, recordOfBytes, siteRecord, siteCount, recordsOf, whole, rowsOk, tableOk, recordOk, eachOk, sitesOk}
+use Rattle.by_bytes.specs.Bytes.{byteAt, rowAt, rowCount, tableOf, recordAt, recordOfBytes, recordSize, siteRecord, siteCount, recordsOf, whole, rowsOk, tableOk, recordOk, eachOk, sitesOk}
 
 -- whole parts are at most as many as the limit
 pub parts-few : (n size limit : ℕ) → whole n size limit ≡ true → n / size ≤ limit
@@ -96,12 +96,12 @@ site-of delivered s h = getD-tabulate 7 (siteRecord delivered) noRecord s h
 module _ (rows delivered : List ℕ) (t : tableOk rows ≡ true) (u : sitesOk delivered (rowCount rows) ≡ true) where
   pub sites-few : siteCount delivered ≤ 7
   unfolding sitesOk
-  sites-few = parts-few (length delivered) 65 7 (and-left (whole (length delivered) 65 7) (eachOk delivered (rowCount rows)) u)
+  sites-few = parts-few (length delivered) recordSize 7 (and-left (whole (length delivered) recordSize 7) (eachOk delivered (rowCount rows)) u)
 
   pub sites-may-post : (s : ℕ) → s < siteCount delivered → Postable (tableOf rows) (of-books.recordNo (recordsOf delivered) s)
   unfolding sitesOk eachOk
   sites-may-post s h =
       let low : s < 7 = omega (arith, sites-few) in
-      let each = and-right (whole (length delivered) 65 7) (eachOk delivered (rowCount rows)) u in
+      let each = and-right (whole (length delivered) recordSize 7) (eachOk delivered (rowCount rows)) u in
       rw (site-of delivered s low)
       (may-post rows t (siteRecord delivered s) (all-at (λ k. recordOk (siteRecord delivered k) (rowCount rows)) (siteCount delivered) s each h))

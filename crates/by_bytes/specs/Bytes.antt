@@ -48,13 +48,21 @@ recordAt bytes from count = record { count = count; numbers = tabulate capacity 
 unfoldable pub recordOfBytes : List ℕ → Record
 recordOfBytes bytes = recordAt bytes 0 (length bytes)
 
--- the record of site s, from place 65s on: its count, then a place for each number
+-- a count, which may be the capacity and so needs two bytes, the highest first
+unfoldable pub countAt : List ℕ → ℕ → ℕ
+countAt bytes i = byteAt bytes i * 256 + byteAt bytes (i + 1)
+
+-- how many bytes the record of a site has: its count, then a place for each number
+abbrev pub recordSize : ℕ
+recordSize = 2 + capacity
+
+-- the record of site s
 unfoldable pub siteRecord : List ℕ → ℕ → Record
-siteRecord bytes s = recordAt bytes (65 * s + 1) (byteAt bytes (65 * s))
+siteRecord bytes s = recordAt bytes (recordSize * s + 2) (countAt bytes (recordSize * s))
 
 -- how many sites there are
 abbrev pub siteCount : List ℕ → ℕ
-siteCount bytes = length bytes / 65
+siteCount bytes = length bytes / recordSize
 
 -- the records of the sites; those from the count on are zeros
 unfoldable pub recordsOf : List ℕ → Records
@@ -84,4 +92,4 @@ eachOk bytes n = allBelow (λ s. recordOk (siteRecord bytes s) n) (siteCount byt
 
 -- the records of at most 7 sites, every one such
 unfoldable pub sitesOk : List ℕ → ℕ → Bool
-sitesOk bytes n = whole (length bytes) 65 7 && eachOk bytes n
+sitesOk bytes n = whole (length bytes) recordSize 7 && eachOk bytes n

@@ -4,19 +4,23 @@ ghost use mathlib.Core.Path.{_≡_};
 ghost use Prim.Native.Nat.{_+_, _*_, _<_, _≤_};
 ghost use lib.ListN.{length};
 ghost use Rattle.sets.specs.Sets.{capacity};
-ghost use Rattle.by_bytes.specs.Bytes.{byteAt, amountAt, rowAt, tableOf, recordAt, recordOfBytes, siteCount, siteRecord, recordsOf, whole, rowsOk, tableOk, recordOk, eachOk, sitesOk};
+ghost use Rattle.by_bytes.specs.Bytes.{byteAt, amountAt, rowAt, tableOf, recordAt, recordOfBytes, countAt, recordSize, siteCount, siteRecord, recordsOf, whole, rowsOk, tableOk, recordOk, eachOk, sitesOk};
 use books::Records;
 use books::SITES;
 use posting::Posting;
 use posting::Record;
 use posting::Table;
 use sets::POSTINGS;
+use sets::wide;
 use sets::wide32;
 
 // How many bytes a row has, and how many the record of a site: its count, then a place for each number.
 pub const ROW: usize = 8;
 
-pub const RECORD: usize = 1 + POSTINGS;
+pub const RECORD: usize = COUNT + POSTINGS;
+
+// A count may be the capacity, which does not fit a byte.
+const COUNT: usize = 2;
 
 // The byte at a place; past the end, 0.
 fn byte_at(bytes: &[u8], i: usize) -> u8
@@ -112,14 +116,24 @@ pub fn record_of(bytes: &[u8]) -> Record
     record_at(bytes, 0, bytes.len())
 }
 
-// The record of site s, from place 65s on: its count, then a place for each number.
+// A count in two bytes from a place on, the highest first.
+fn count_at(bytes: &[u8], i: usize) -> usize
+    requires { ⌜ i ≤ 7 * recordSize ⌝ }
+    ensures { λ r. ⌜ r ≡ countAt (now (bytes .entry)) i ⌝ }
+{
+    let x = byte_at(bytes, i);
+    let y = byte_at(bytes, i + 1);
+    wide(x) * 256 + wide(y)
+}
+
+// The record of site s: its count, then a place for each number.
 fn site_record(bytes: &[u8], s: usize) -> Record
     requires { ⌜ s < 7 ⌝ }
     ensures { λ r. ⌜ r ≡ siteRecord (now (bytes .entry)) s ⌝ }
 {
     let at = RECORD * s;
-    let count = byte_at(bytes, at) as usize;
-    record_at(bytes, at + 1, count)
+    let count = count_at(bytes, at);
+    record_at(bytes, at + COUNT, count)
 }
 
 // The records of the sites.

@@ -89,7 +89,7 @@ marked =
       quiet = false;
     })
     -- and once the board is quiet every record is 0 1.
-    ∷ look began m10 6784
+    ∷ look began m10 27136
     gives left
     (record {
       down = [];

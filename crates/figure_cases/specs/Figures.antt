@@ -25,11 +25,11 @@ parted =
 
 -- two CALLs of account 2, and a drain to quiet
 unfoldable pub afterCalls : Board
-afterCalls = drained (running parted (Offer 0 call 2 2 0 Whole ∷ Offer 1 call 2 2 0 Whole ∷ [])) 6784 .board
+afterCalls = drained (running parted (Offer 0 call 2 2 0 Whole ∷ Offer 1 call 2 2 0 Whole ∷ [])) 27136 .board
 
 -- a NET of account 1 and one of account 2, and a drain to quiet
 unfoldable pub afterNets : Board
-afterNets = drained (running afterCalls (Offer 0 net 1 1 0 Whole ∷ Offer 1 net 2 2 0 Whole ∷ [])) 6784 .board
+afterNets = drained (running afterCalls (Offer 0 net 1 1 0 Whole ∷ Offer 1 net 2 2 0 Whole ∷ [])) 27136 .board
 
 -- ---- what is looked at
 

@@ -53,7 +53,7 @@ sitesBelow b mask = ltb mask (2 ^ b .setup .n)
 abbrev pub maskOk : Board → ℕ → ℕ → Bool
 maskOk b m mask = eqb mask 0 || (offered (b .table) m && sitesBelow b mask)
 
--- a list of at most 64 postings, all offered, none twice
+-- a list of no more postings than the capacity, all offered, none twice
 unfoldable pub recordOk : Board → Record → Bool
 recordOk b r =
     allOf

@@ -1,6 +1,6 @@
 -- Bounds on the lengths of the texts, by the numbers of digits: the line of an event is no longer than 30 bytes, a finished run than longestRun says.
 -- Rests on Output and Texts. Of bytes, and of posting and site numbers, that they are below 1,000 is a premise. Assumes nothing.
-use Prim.Native.Nat.{ℕ, zero, suc, _+_, _*_, _/_, _^_, _<_, _≤_}
+use Prim.Native.Nat.{ℕ, zero, suc, _+_, _*_, _-_, _/_, _^_, _<_, _≤_}
 use mathlib.Core.Path.{ap}
 use mathlib.Core.Logic.{inl, inr}
 use mathlib.Core.Bool.{Bool, true, false, cond}
@@ -79,14 +79,22 @@ event-length d k refusal hk h =
 pub longest-line : (k refusal : ℕ) → k ≤ lastPlace → refusal < 1_000 → length (eventLine k refusal) ≤ 30
 longest-line k refusal hk h = event-length 20 k refusal (most-digits k hk) h
 
-events-length : (k : ℕ) (l : List ℕ) → k + length l < 10_000 → Small l → length (eventLines k l) ≤ 14 * length l
+-- the line of event k of fewer than 10,000: a byte more from 1,000 on
+numbered-length : (k refusal : ℕ) → k < 10_000 → refusal < 1_000 → length (eventLine k refusal) + (k - 1 - 999) ≤ 13 + (k - 999)
+numbered-length k refusal hk h = elim (test (ltb k 1_000)) [
+  | inl t ↦ omega (arith, ltb-true k 1_000 t, event-length 3 k refusal (three-digits k (ltb-true k 1_000 t)) h)
+  | inr f ↦ omega (arith, ltb-false k 1_000 f, event-length 4 k refusal (four-digits k hk) h)
+]
+
+-- the lines of the events after event k
+events-length : (k : ℕ) (l : List ℕ) → k + length l < 10_000 → Small l → length (eventLines k l) + (k - 999) ≤ 13 * length l + (k + length l - 999)
 unfolding eventLines
 events-length k [] h s = omega arith
 events-length k (refusal ∷ l) h s =
     omega (
       arith,
       length-append (eventLine (k + 1) refusal) (eventLines (k + 1) l),
-      event-length 4 (k + 1) refusal (four-digits (k + 1) (omega arith)) (s 0),
+      numbered-length (k + 1) refusal (omega arith) (s 0),
       events-length (k + 1) l (omega arith) (λ i. s (suc i)),
     )
 
@@ -100,7 +108,7 @@ pub state-length : (down : Bool) → length (cond down downWord upWord) ≤ 5
 state-length true = omega arith
 state-length false = omega arith
 
-site-length : (p : ℕ) (down : Bool) (l : List ℕ) → p < 1_000 → Recorded l → length (siteLine p down l) ≤ 267
+site-length : (p : ℕ) (down : Bool) (l : List ℕ) → p < 1_000 → Recorded l → length (siteLine p down l) ≤ 1_035
 unfolding siteLine
 site-length p down l h r =
     let state = cond down downWord upWord in
@@ -116,7 +124,7 @@ site-length p down l h r =
     )
 
 sites-length : (down : ℕ) (records : Records) (n : ℕ) → n < 1_000 → ((p : ℕ) → p < n → Recorded (numbersOf (recordNo records p)))
-    → length (siteLines down records n) ≤ 267 * n
+    → length (siteLines down records n) ≤ 1_035 * n
 unfolding siteLines
 sites-length down records zero h r = omega arith
 sites-length down records (suc p) h r =
@@ -128,7 +136,7 @@ sites-length down records (suc p) h r =
       sites-length down records p (omega arith) (λ q i. r q (omega arith)),
     )
 
-log-length : (l : List ℕ) → Recorded l → length (logLine l) ≤ 258
+log-length : (l : List ℕ) → Recorded l → length (logLine l) ≤ 1_026
 unfolding logLine
 log-length l r = omega (arith, length-append (items l) newline, items-length l (r .small), r .few)
 

@@ -1,6 +1,6 @@
 -- What the writers of lines promise: a text put into a slice from a place on, bytes past its end counted and not put; and a run's text that surely fits.
 -- Proof machinery: proofs/ ties them to Writing. Rests on nothing of the repository.
-use Prim.Native.Nat.{ℕ, _+_, _*_}
+use Prim.Native.Nat.{ℕ, _+_, _*_, _-_}
 use mathlib.Core.Path.{_≡_}
 use mathlib.Core.Bool.{Bool, cond, _&&_}
 use mathlib.Core.List.{List, [], _∷_}
@@ -34,9 +34,13 @@ pub record Put (text : List ℕ) (at : ℕ) (before now : List ℕ) (place : ℕ
 abbrev pub mostEvents : ℕ
 mostEvents = 10_000
 
--- A run's text is no longer: 14 bytes for each event, 267 for each site, 264 for the log and the last line.
+-- the lines of events are no longer: 13 bytes each, and one more for each event whose number has a fourth digit
+abbrev pub longestLines : ℕ → ℕ
+longestLines events = 13 * events + (events - 999)
+
+-- A run's text is no longer: its events' lines, 1,035 bytes for each site, 1,032 for the log and the last line.
 abbrev pub longestRun : ℕ → ℕ → ℕ
-longestRun events n = 14 * events + 267 * n + 264
+longestRun events n = longestLines events + 1_035 * n + 1_032
 
 abbrev pub surelyFits : ℕ → ℕ → ℕ → Bool
 surelyFits events n room = ltb events mostEvents && leb (longestRun events n) room

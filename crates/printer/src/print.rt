@@ -10,7 +10,7 @@ ghost use Rattle.posting.specs.Records.{numbersOf};
 ghost use Rattle.books.specs.Books.{recordNo};
 ghost use Rattle.printer.specs.Output.{lastDigit, decimal, eventLine, eventLines, items, siteLine, siteLines, logLine, quietLine, boardLines, printedOf, refusedLine, space, upWord, downWord, okWord, noWord, newline};
 ghost use Rattle.printer.specs.Writing.{slicePrinted, writtenOf, answerPrinted};
-ghost use Rattle.printer.specs.Puts.{Put, surelyFits};
+ghost use Rattle.printer.specs.Puts.{Put, mostEvents, longestLines, surelyFits};
 use crate::Ended;
 use crate::Printed;
 use books::Records;
@@ -30,17 +30,19 @@ const MOST_EVENTS: usize = 10_000;
 
 const EVENT_DIGITS: usize = 4;
 
-// No line of such an event is longer: four digits of its number, three of a refusal's.
-const EVENT_LINE: usize = 14;
+// No line of an event is longer whose number has three digits, as those of the first 999 have; a refusal's has three.
+const EVENT_LINE: usize = 13;
+
+const SHORT_EVENTS: usize = 999;
 
 // No line of any event is longer: its number has 20 digits at most.
 const LONGEST_LINE: usize = 30;
 
-// No line of a site is longer: its record has 64 numbers at most, of three digits.
-const SITE_LINE: usize = 267;
+// No line of a site is longer: its record has 256 numbers at most, of three digits.
+const SITE_LINE: usize = 1_035;
 
 // Nor are the log's line and the last, together.
-const LAST_LINES: usize = 264;
+const LAST_LINES: usize = 1_032;
 
 // From a place on there are so many bytes in a slice of such a length. Nothing is added to the place, which may be the largest.
 fn has_room(count: usize, at: usize, all: usize) -> bool
@@ -350,6 +352,20 @@ fn refused_line(refusal: u8, at: usize, out: &mut [u8]) -> usize
     put(NEWLINE, q, out)
 }
 
+// The lines of so many events are no longer.
+fn longest_lines(events: usize) -> usize
+    requires { ⌜ events < mostEvents ⌝ }
+    ensures { λ r. ⌜ r ≡ longestLines events ⌝ }
+{
+    let lines = EVENT_LINE * events;
+    if events <= SHORT_EVENTS {
+        return lines;
+    }
+    let more = events - SHORT_EVENTS;
+    let longest = lines + more;
+    longest
+}
+
 // A run of so many events and sites surely fits into so many bytes.
 fn surely_fits(events: usize, n: u8, room: usize) -> bool
     ensures { λ r. ⌜ r ≡ surelyFits events n room ⌝ }
@@ -358,7 +374,8 @@ fn surely_fits(events: usize, n: u8, room: usize) -> bool
         return false;
     }
     let sites = SITE_LINE * wide(n);
-    let longest = EVENT_LINE * events + sites + LAST_LINES;
+    let lines = longest_lines(events);
+    let longest = lines + sites + LAST_LINES;
     longest <= room
 }
 

@@ -9,7 +9,7 @@ use Rattle.sets.specs.declared.Set.{Set}
 
 -- how many words a set has, and so how many postings a board holds
 abbrev pub words : ℕ
-words = 1
+words = 4
 
 abbrev pub capacity : ℕ
 capacity = 64 * words

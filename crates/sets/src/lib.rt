@@ -4,10 +4,10 @@ ghost use mathlib.Core.Path.{_≡_};
 ghost use Rattle.sets.specs.Sets.{emptySet, has, with, withIf, join, meet, subset, isEmptySet};
 
 // How many words a set has: one word holds 64 postings.
-pub const WORDS: usize = 1;
+pub const WORDS: usize = 4;
 
 // How many postings a board holds: a set has a bit for each.
-pub const POSTINGS: usize = 64;
+pub const POSTINGS: usize = 256;
 
 // A byte as a wider number: a cast by itself would ask each caller that the byte fits.
 pub fn wide(x: u8) -> usize

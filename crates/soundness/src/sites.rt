@@ -37,7 +37,7 @@ fn masks_ok(n: u8, count: usize, masks: &[u8; POSTINGS]) -> bool
     true
 }
 
-// At most 64 postings, all offered, none twice. Those met so far are kept as a set, so that each number is looked at once.
+// No more postings than the capacity, all offered, none twice. Those met so far are kept as a set, so that each number is looked at once.
 pub fn record_ok(count: usize, postings: Record) -> bool
     ensures { λ r. ⌜ r ≡ recordSound count postings ⌝ }
 {

@@ -17,7 +17,7 @@ fn row_ok(n: u8, p: Posting) -> bool
     p.fields_ok()
 }
 
-// At most 64 rows, all of which pass.
+// No more rows than the capacity, all of which pass.
 pub fn table_ok(n: u8, table: Table) -> bool
     ensures { λ r. ⌜ r ≡ tableSound n table ⌝ }
 {

@@ -108,7 +108,7 @@ accepted-zero (Offered m) h = refl
 accepted-zero (Refused k) h = absurd (never h refl)
 
 -- a drain whose limit is enough leaves a quiet board
-ended-quiet : (b : Board) (limit : ℕ) → DrainSays b limit → 6784 ≤ limit → isQuiet (drained b limit .board) ≡ true
+ended-quiet : (b : Board) (limit : ℕ) → DrainSays b limit → 27136 ≤ limit → isQuiet (drained b limit .board) ≡ true
 ended-quiet b limit says h = elim (says .ends) [
   | inl q ↦ q .1
   | inr s ↦ absurd (omega (arith, ap (λ (x : Ending). getD (endingOf x .1) 0 0) (sym (says .enough h) ∙ s .0)))

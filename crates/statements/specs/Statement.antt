@@ -21,7 +21,7 @@ statementOf b = let n = b .setup .n in statementText (figuresOfAll b n) n (b .do
 
 -- a drain with this limit ends quiet on every board that a run reaches
 abbrev pub drainLimit : ℕ
-drainLimit = 6784
+drainLimit = 27136
 
 -- calls from a board, then a drain, then the statement of the board that it hands back
 unfoldable pub statedRun : Board → List Call → List ℕ

@@ -43,7 +43,7 @@ pub mod same;
 const ALL_FIGURES: usize = SITES * FIGURES;
 
 // A drain with this limit ends quiet on every board that a run reaches.
-const DRAIN: u64 = 6784;
+const DRAIN: u64 = 27136;
 
 // What a run and a drain leave beside the books: the drain's count, the sites that are down, and the number of the books' refusal.
 pub struct AfterDrain {

@@ -51,7 +51,7 @@ with-answer e = (e .0, (e .1, ap answerOf (e .0)))
 
 -- ---- what may be posted
 
--- the record of a site of a sound board: it names postings offered, at most 64, and their fields are within the rule
+-- the record of a site of a sound board: it names postings offered, no more than the capacity, and their fields are within the rule
 pub site-may-post : (b : Board) → length (b .flight .masks) ≡ cells → isSound b ≡ true → (p : ℕ) → p < b .setup .n
     → Postable (b .table) (siteAt b p .delivered)
 site-may-post b long sound p h =

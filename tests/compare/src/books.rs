@@ -5,7 +5,7 @@ use crate::inputs::{
     any_record, damage_record, damage_rows, damage_sites, is_sound, lent, postings, rows,
     site_bytes, sound_table,
 };
-use crate::proved::{self, DONE, RECORD, REFUSED};
+use crate::proved::{self, COUNT, DONE, RECORD, REFUSED};
 use crate::tally::Tally;
 use model::posting::{CALL, MAX_AMOUNT, MAX_RATE, NET, RATE, TRADE};
 use model::prng::Prng;
@@ -16,7 +16,7 @@ fn sound(rows: &[u8]) -> Option<Vec<Posting>> {
     postings(rows).filter(|table| table.iter().all(is_sound))
 }
 
-/// Whether the record is at most 64 numbers of a table with so many postings.
+/// Whether the record is not too long, and has numbers of a table with so many postings alone.
 fn names(record: &[u8], count: usize) -> bool {
     record.len() <= POSTINGS && record.iter().all(|&m| usize::from(m) < count)
 }
@@ -68,8 +68,8 @@ fn largest_books(tally: &mut Tally) {
                 table.push(posting(NET, k, k, 0));
             }
             table.truncate(POSTINGS);
-            let record: Vec<u8> = (0..table.len() as u8).collect();
-            let turned: Vec<u8> = (0..table.len() as u8).rev().collect();
+            let record: Vec<u8> = (0..table.len()).map(|m| m as u8).collect();
+            let turned: Vec<u8> = record.iter().rev().copied().collect();
             for record in [record, turned] {
                 same_books(tally, &rows(&table), &record, &mut [-1; FIGURES + 1]);
             }
@@ -95,7 +95,7 @@ pub fn books(tally: &mut Tally) {
     }
 }
 
-/// Each site's numbers, as its count says; nothing if the bytes are no whole records or a count is past 64.
+/// Each site's numbers, as its count says; nothing if the bytes are no whole records or a count is past their places.
 fn records(bytes: &[u8]) -> Option<Vec<&[u8]>> {
     let (whole, rest) = bytes.as_chunks::<RECORD>();
     if !rest.is_empty() {
@@ -103,7 +103,7 @@ fn records(bytes: &[u8]) -> Option<Vec<&[u8]>> {
     }
     whole
         .iter()
-        .map(|site| site[1..].get(..site[0].into()))
+        .map(|site| site[COUNT..].get(..u16::from_be_bytes([site[0], site[1]]).into()))
         .collect()
 }
 

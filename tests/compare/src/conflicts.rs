@@ -10,7 +10,7 @@ use crate::tally::Tally;
 use model::gen::legal_matrix;
 use model::prng::Prng;
 use model::{conflict, fields_ok, matrix_has_fixed_pairs, matrix_symmetric};
-use model::{Board, Posting, ACCOUNTS, FIXED_PAIRS};
+use model::{Board, Posting, Set, ACCOUNTS, FIXED_PAIRS, POSTINGS, WORDS};
 
 fn same_fields(tally: &mut Tally, p: &Posting) {
     let model = fields_ok(p.kind.into(), p.a.into(), p.b.into(), p.amount.into());
@@ -55,26 +55,27 @@ pub fn matrices(tally: &mut Tally) {
     }
 }
 
-/// Document 01 knows no account past 15, and the model is not asked for one there: such a number is given
-/// to it as one of the row's own, by which nothing is shared.
-fn own_accounts(p: &Posting, row: usize) -> Posting {
-    let own = ACCOUNTS as u8 + 2 * row as u8;
-    let known = |account, other| {
+/// Document 01 knows no account past 15, and the model is not asked for one there: each such number is given to it
+/// as one that was not used before, by which nothing is shared. There are few of them in a table.
+fn own_accounts(p: &Posting, unused: &mut u8) -> Posting {
+    let mut known = |account| {
         if usize::from(account) < ACCOUNTS {
-            account
-        } else {
-            other
+            return account;
         }
+        *unused += 1;
+        *unused - 1
     };
     Posting {
-        a: known(p.a, own),
-        b: known(p.b, own + 1),
+        a: known(p.a),
+        b: known(p.b),
         ..*p
     }
 }
 
 fn same_conflict(tally: &mut Tally, matrix: u16, m: usize, p: &Posting, x: usize, q: &Posting) {
-    let model = m != x && conflict(matrix, &own_accounts(p, 0), &own_accounts(q, 1));
+    let mut unused = ACCOUNTS as u8;
+    let [own_p, own_q] = [p, q].map(|posting| own_accounts(posting, &mut unused));
+    let model = m != x && conflict(matrix, &own_p, &own_q);
     let proved = proved::conflicting(matrix, m, p, x, q);
     tally.same(model, proved, model, || {
         format!("{matrix:#06x} {m} {p:?} {x} {q:?}")
@@ -113,17 +114,18 @@ pub fn conflicts(tally: &mut Tally) {
                 sound_posting(&mut rng, accounts)
             }
         });
-        let m = rng.pick(&[0, 1, 62, 63, 64, 255, 256, usize::MAX]);
-        let x = rng.pick(&[0, 1, 63, 64, usize::MAX, m]);
+        let m = rng.pick(&[0, 1, 63, 64, 254, 255, 256, 257, usize::MAX]);
+        let x = rng.pick(&[0, 1, 63, 64, 255, 256, usize::MAX, m]);
         let q = if rng.percent(10) { p } else { q };
         same_conflict(tally, any_matrix(&mut rng), m, &p, x, &q);
     }
 }
 
 /// C(m) of the model's board with these postings; nothing for bytes that are no table, or no m of it.
-fn family(board: &mut Board, matrix: u16, rows: &[u8], m: usize) -> Option<u64> {
+fn family(board: &mut Board, matrix: u16, rows: &[u8], m: usize) -> Option<Set> {
     let table = postings(rows).filter(|table| m < table.len())?;
-    let own = table.iter().enumerate().map(|(k, p)| own_accounts(p, k));
+    let mut unused = ACCOUNTS as u8;
+    let own = table.iter().map(|p| own_accounts(p, &mut unused));
     board.matrix = matrix;
     board.postings = own.collect();
     Some(board.family(m))
@@ -140,16 +142,16 @@ pub fn conflict_sets(tally: &mut Tally) {
         }
         let matrix = any_matrix(&mut rng);
         let inside = rng.below(table.len().max(1) as u64) as usize;
-        let beyond = rng.pick(&[table.len(), 63, 64, usize::MAX]);
+        let beyond = rng.pick(&[table.len(), 63, 64, POSTINGS - 1, POSTINGS, usize::MAX]);
         let m = rng.pick(&[inside, inside, inside, inside, beyond]);
-        let mut out: Vec<u64> = (0..rng.pick(&[1, 1, 1, 1, 1, 2, 3, 0]))
-            .map(|_| rng.word())
-            .collect();
+        let few = rng.below(WORDS as u64) as usize;
+        let room = rng.pick(&[WORDS, WORDS, WORDS, WORDS, WORDS + 1, WORDS + 3, few]);
+        let mut out: Vec<u64> = (0..room).map(|_| rng.word()).collect();
         let mut wanted = out.clone();
         let mut answer = REFUSED;
-        if let Some(set) = family(&mut board, matrix, &bytes, m).filter(|_| !out.is_empty()) {
+        if let Some(set) = family(&mut board, matrix, &bytes, m).filter(|_| room >= WORDS) {
             answer = DONE;
-            wanted[0] = set;
+            wanted[..WORDS].copy_from_slice(&set.words);
         }
         let given = proved::conflict_set(matrix, &bytes, m, &mut out);
         tally.same(answer == DONE, (given, out), (answer, wanted), || {

@@ -1,7 +1,7 @@
 // Holds: edge values, random postings, tables and records as bytes, damage to them, and slices to fill.
 // Rests on: the model's postings and its generator of numbers.
 
-use crate::proved::{RECORD, ROW};
+use crate::proved::{COUNT, RECORD, ROW};
 use model::posting::{MAX_AMOUNT, MAX_RATE};
 use model::prng::Prng;
 use model::{fields_ok, Posting, POSTINGS, SITES};
@@ -88,7 +88,7 @@ pub fn rows(postings: &[Posting]) -> Vec<u8> {
     postings.iter().flat_map(row).collect()
 }
 
-/// The postings of a table's bytes, if they are whole rows and at most 64.
+/// The postings of a table's bytes, if they are whole rows and not too many.
 pub fn postings(rows: &[u8]) -> Option<Vec<Posting>> {
     let (whole, rest) = rows.as_chunks::<ROW>();
     if !rest.is_empty() || whole.len() > POSTINGS {
@@ -104,10 +104,12 @@ pub fn postings(rows: &[u8]) -> Option<Vec<Posting>> {
     Some(whole.iter().map(read).collect())
 }
 
-/// A count up to 64, often at an end.
+/// A count up to the most there may be, often at an end or where a word of a set ends; mostly few.
 pub fn any_count(rng: &mut Prng) -> usize {
     let any = rng.below(POSTINGS as u64 + 1) as usize;
-    rng.pick(&[0, 1, 2, POSTINGS - 1, POSTINGS, POSTINGS, any, any, any])
+    let few = rng.below(24) as usize;
+    let ends = rng.pick(&[0, 1, 2, 63, 64, 65, POSTINGS - 1, POSTINGS, POSTINGS]);
+    rng.pick(&[ends, ends, any, few, few, few])
 }
 
 /// Postings with sound fields, on few accounts or on all.
@@ -132,7 +134,7 @@ pub fn any_record(rng: &mut Prng, count: usize) -> Vec<u8> {
         let length = any_count(rng);
         return numbers(rng, length, count);
     }
-    let mut order: Vec<u8> = (0..count as u8).collect();
+    let mut order: Vec<u8> = (0..count).map(|m| m as u8).collect();
     for i in (1..count).rev() {
         order.swap(i, rng.below(i as u64 + 1) as usize);
     }
@@ -144,8 +146,8 @@ pub fn any_record(rng: &mut Prng, count: usize) -> Vec<u8> {
 /// A site's record as bytes: its count, its numbers, and what stands in the places that hold nothing.
 pub fn site_bytes(rng: &mut Prng, record: &[u8]) -> [u8; RECORD] {
     let mut bytes = [rng.pick(&[0, 255, 64]); RECORD];
-    bytes[0] = record.len() as u8;
-    bytes[1..=record.len()].copy_from_slice(record);
+    bytes[..COUNT].copy_from_slice(&(record.len() as u16).to_be_bytes());
+    bytes[COUNT..][..record.len()].copy_from_slice(record);
     bytes
 }
 
@@ -164,17 +166,19 @@ pub fn damage_rows(rng: &mut Prng, bytes: &mut Vec<u8>) {
     }
 }
 
-/// A record with a fault: longer than 64, or a number past the table's.
+/// A record with a fault: too long, or a number past the table's. A full table has every number that a byte can be.
 pub fn damage_record(rng: &mut Prng, record: &mut Vec<u8>, count: usize) {
-    if record.is_empty() || rng.percent(30) {
+    if record.is_empty() || count == POSTINGS || rng.percent(30) {
         record.resize(POSTINGS + rng.within(1, 3) as usize, 0);
         return;
     }
     let at = rng.below(record.len() as u64) as usize;
-    record[at] = rng.pick(&[count as u8, 64, 128, 255]);
+    let last = POSTINGS as u64 - 1;
+    let past = rng.within(count as u64, last);
+    record[at] = rng.pick(&[count as u64, past, last]) as u8;
 }
 
-/// Sites' bytes with a fault: eight sites, a record not whole, or a count past 64.
+/// Sites' bytes with a fault: eight sites, a record not whole, or a count past the most there may be.
 pub fn damage_sites(rng: &mut Prng, bytes: &mut Vec<u8>) {
     let length = bytes.len();
     match rng.below(4) {
@@ -183,7 +187,8 @@ pub fn damage_sites(rng: &mut Prng, bytes: &mut Vec<u8>) {
         2 => bytes.truncate(rng.below(length as u64 + 1) as usize),
         _ if length > 0 => {
             let at = RECORD * rng.below((length / RECORD) as u64) as usize;
-            bytes[at] = rng.pick(&[65, 66, 128, 255]);
+            let count: u16 = rng.pick(&[257, 258, 511, 512, 0x8000, u16::MAX]);
+            bytes[at..at + COUNT].copy_from_slice(&count.to_be_bytes());
         }
         _ => bytes.push(0),
     }

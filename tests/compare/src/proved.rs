@@ -6,9 +6,10 @@ pub const DONE: u8 = 0;
 pub const REFUSED: u8 = 255;
 /// What stands in place of a size.
 pub const NO_SIZE: u64 = u64::MAX;
-/// Bytes of a row, and of a site's record.
+/// Bytes of a row, and of a site's record: its count in so many, and a byte for each number.
 pub const ROW: usize = 8;
-pub const RECORD: usize = 65;
+pub const COUNT: usize = 2;
+pub const RECORD: usize = COUNT + POSTINGS;
 
 mod library {
     extern "C" {
@@ -63,7 +64,7 @@ mod library {
     }
 }
 
-use model::Posting;
+use model::{Posting, POSTINGS};
 
 // Every function of the library takes any numbers, and of a slice its pointer and its length, which it
 // neither keeps nor passes: so each call below is sound.

@@ -4,7 +4,7 @@
 use crate::flight::Flight;
 use crate::posting::{conflict, matrix_has_fixed_pairs, matrix_symmetric, Posting};
 use crate::refusal::Refusal;
-use crate::set::{has_site, one, sites_below, POSTINGS, SITES};
+use crate::set::{has_site, one, sites_below, Set, POSTINGS, SITES};
 use crate::site::Site;
 
 #[derive(Clone, Debug, PartialEq, Eq)]
@@ -18,9 +18,9 @@ pub struct Board {
     /// The sites from n on are unused.
     pub sites: [Site; SITES],
     pub flight: Flight,
-    pub pool: u64,
+    pub pool: Set,
     /// For each posting in the pool or the log: the set that its entry carries.
-    pub entries: [u64; POSTINGS],
+    pub entries: [Set; POSTINGS],
     pub log: Vec<u8>,
 }
 
@@ -52,8 +52,8 @@ impl Board {
             postings: Vec::new(),
             sites: [Site::BLANK; SITES],
             flight: Flight::EMPTY,
-            pool: 0,
-            entries: [0; POSTINGS],
+            pool: Set::EMPTY,
+            entries: [Set::EMPTY; POSTINGS],
             log: Vec::new(),
         }
     }
@@ -91,7 +91,7 @@ impl Board {
     }
 
     /// C(m): m with all that conflict with it.
-    pub fn family(&self, m: usize) -> u64 {
+    pub fn family(&self, m: usize) -> Set {
         let posting = &self.postings[m];
         let mut set = one(m);
         for (k, other) in self.postings.iter().enumerate() {

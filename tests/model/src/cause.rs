@@ -12,7 +12,7 @@ pub enum Cause {
     Fields,
     /// A THIRD is in flight to a site that is not its owner.
     ThirdElsewhere,
-    /// There are more than 64 postings.
+    /// There are more than 256 postings.
     TooMany,
     /// A set or list names a posting not offered.
     NotOffered,

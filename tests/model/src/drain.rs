@@ -5,7 +5,7 @@ use crate::board::Board;
 use crate::call::Call;
 use crate::flight::FORMS;
 use crate::refusal::Refusal;
-use crate::set::SITES;
+use crate::set::{members, SITES};
 
 #[derive(Clone, Copy, Debug, PartialEq, Eq)]
 pub enum Ending {
@@ -17,7 +17,9 @@ impl Board {
     pub fn is_quiet(&self) -> bool {
         let up = self.up();
         let in_flight = self.flight.to.as_flattened().as_flattened();
-        in_flight.iter().all(|to| to & up == 0) && self.pool == 0 && self.lowest_reader().is_none()
+        in_flight.iter().all(|to| to & up == 0)
+            && self.pool.is_empty()
+            && self.lowest_reader().is_none()
     }
 
     /// The lowest site that is up and has log left.
@@ -53,8 +55,8 @@ impl Board {
         if let Some(call) = self.lowest_receipt() {
             return Some(call);
         }
-        if self.pool != 0 {
-            let posting = self.pool.trailing_zeros().into();
+        if let Some(lowest) = members(self.pool).next() {
+            let posting = lowest as u64;
             return Some(Call::Order { posting });
         }
         let site = self.lowest_reader()? as u64;

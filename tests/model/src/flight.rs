@@ -1,7 +1,7 @@
 // Holds: the messages in flight, a set by form, posting, from and to.
 // Rests on: set.
 
-use crate::set::{has_site, site, POSTINGS, SITES};
+use crate::set::{has_site, site, Set, POSTINGS, SITES};
 
 pub const FORMS: usize = 4;
 pub const FIRST: usize = 0;
@@ -16,7 +16,7 @@ pub struct Flight {
     /// For posting and from: those of the SECONDs in flight that say GOOD.
     pub good: [[u8; SITES]; POSTINGS],
     /// For posting and from: what the THIRD in flight carries. One is enough, as it goes to the owner.
-    pub carried: [[u64; SITES]; POSTINGS],
+    pub carried: [[Set; SITES]; POSTINGS],
 }
 
 #[derive(Clone, Copy, Debug, PartialEq, Eq, PartialOrd, Ord)]
@@ -31,7 +31,7 @@ impl Flight {
     pub const EMPTY: Flight = Flight {
         to: [[[0; SITES]; POSTINGS]; FORMS],
         good: [[0; SITES]; POSTINGS],
-        carried: [[0; SITES]; POSTINGS],
+        carried: [[Set::EMPTY; SITES]; POSTINGS],
     };
 
     /// Whether the message is in flight; any numbers may be asked.
@@ -61,7 +61,7 @@ impl Flight {
         }
     }
 
-    pub fn send_third(&mut self, m: usize, from: usize, owner: usize, carried: u64) {
+    pub fn send_third(&mut self, m: usize, from: usize, owner: usize, carried: Set) {
         self.to[THIRD][m][from] |= site(owner);
         self.carried[m][from] = carried;
     }
@@ -79,7 +79,7 @@ impl Flight {
     }
 
     /// Takes a THIRD out, with the set it carries.
-    pub fn take_third(&mut self, m: usize, from: usize, to: usize) -> u64 {
+    pub fn take_third(&mut self, m: usize, from: usize, to: usize) -> Set {
         self.take(THIRD, m, from, to);
         std::mem::take(&mut self.carried[m][from])
     }
@@ -89,6 +89,9 @@ impl Flight {
         let mut list = Vec::new();
         for form in 0..FORMS {
             for posting in 0..POSTINGS {
+                if self.to[form][posting] == [0; SITES] {
+                    continue;
+                }
                 for from in 0..SITES {
                     let here = self.to[form][posting][from] & to;
                     if here == 0 {

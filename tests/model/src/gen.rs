@@ -8,7 +8,7 @@ use crate::odd::spoil;
 use crate::posting::{FIXED_PAIRS, MAX_AMOUNT, MAX_RATE};
 use crate::prng::Prng;
 use crate::runfile::Run;
-use crate::set::{has_site, members, POSTINGS};
+use crate::set::{has_site, members, POSTINGS, WORDS};
 
 /// What a run is made of; the shares are in a hundred events.
 #[derive(Clone, Copy, Debug)]
@@ -23,11 +23,16 @@ pub struct Mix {
     pub odd: u64,
     /// Arguments may be too large for a run file.
     pub wide: bool,
-    /// Which messages are hurried: see `liking`.
+    /// Which messages are hurried: see `liking`. Below `TASTES`, or one of the `LEADS` from there on.
     pub taste: u64,
 }
 
 pub const TASTES: u64 = 7;
+/// The tastes from `TASTES` on begin with a lead of offers, and then hurry the last few of these.
+pub const LEADS: u64 = WORDS as u64;
+const HURRIED: u64 = 3;
+/// Postings in no record, from which on the share of offers rests.
+const MANY: usize = 64;
 
 pub fn random_mix(rng: &mut Prng) -> Mix {
     Mix {
@@ -37,8 +42,42 @@ pub fn random_mix(rng: &mut Prng) -> Mix {
         cuts: rng.pick(&[0, 1, 3, 10]),
         odd: rng.pick(&[0, 5, 20, 50]),
         wide: false,
-        taste: rng.below(TASTES),
+        taste: random_taste(rng),
     }
+}
+
+/// Those with a lead are few: a board with many postings takes long to become quiet.
+fn random_taste(rng: &mut Prng) -> u64 {
+    if rng.percent(8) {
+        rng.within(TASTES, TASTES + LEADS - 1)
+    } else {
+        rng.below(TASTES)
+    }
+}
+
+/// A mix for a run of so many events. A lead is more frequent here, but is none that takes over half of the run.
+pub fn mix_for(rng: &mut Prng, events: usize) -> Mix {
+    let mut mix = random_mix(rng);
+    let leading = TASTES..TASTES + LEADS;
+    let fitting: Vec<u64> = leading
+        .filter(|&taste| 2 * lead(taste) <= events as u64)
+        .collect();
+    if !fitting.is_empty() && rng.percent(25) {
+        mix.taste = rng.pick(&fitting);
+    } else if mix.taste >= TASTES {
+        mix.taste = rng.below(TASTES);
+    }
+    mix
+}
+
+/// How many postings a taste offers before anything else: a few past each further word of a set, or all that
+/// there can be.
+fn lead(taste: u64) -> u64 {
+    if taste < TASTES {
+        return 0;
+    }
+    let words = taste - TASTES + 1;
+    (POSTINGS as u64).min(words * u64::from(u64::BITS) + HURRIED)
 }
 
 /// The fixed pairs, with each of the five free pairs at random.
@@ -120,11 +159,26 @@ fn liking(taste: u64, message: &Message) -> u64 {
         1 => form.into(),
         2 => 3 - u64::from(form),
         3 => posting.into(),
-        4 => 63 - u64::from(posting),
+        4 => POSTINGS as u64 - 1 - u64::from(posting),
         5 => to.into(),
         6 => from.into(),
+        TASTES.. => {
+            let end = lead(taste);
+            u64::from((end - HURRIED..end).contains(&posting.into()))
+        }
         _ => 0,
     }
+}
+
+/// After a lead more are drawn, so that even a short run brings some of its last postings through.
+fn liked(rng: &mut Prng, messages: &[Message], taste: u64) -> Option<Message> {
+    let more = if taste < TASTES {
+        0
+    } else {
+        messages.len() / 16
+    };
+    let drawn = (0..4 + more).map(|_| rng.pick(messages));
+    drawn.max_by_key(|message| liking(taste, message))
 }
 
 /// An uncut receipt, order or read that is accepted, if there is one.
@@ -133,11 +187,10 @@ fn pending(rng: &mut Prng, board: &Board, mix: &Mix) -> Option<Call> {
     let readers: Vec<u64> = (0..u64::from(board.n))
         .filter(|&s| board.is_up(s as usize) && board.sites[s as usize].place < board.log.len())
         .collect();
-    let oracle = board.pool != 0 || !readers.is_empty();
+    let oracle = !board.pool.is_empty() || !readers.is_empty();
     let skip = oracle && rng.percent(15);
     if !messages.is_empty() && !skip {
-        let drawn: Vec<Message> = (0..4).map(|_| rng.pick(&messages)).collect();
-        let best = drawn.iter().max_by_key(|m| liking(mix.taste, m))?;
+        let best = liked(rng, &messages, mix.taste)?;
         return Some(Call::Receive {
             form: best.form.into(),
             posting: best.posting.into(),
@@ -146,7 +199,7 @@ fn pending(rng: &mut Prng, board: &Board, mix: &Mix) -> Option<Call> {
             cut: None,
         });
     }
-    if board.pool != 0 && (readers.is_empty() || rng.percent(50)) {
+    if !board.pool.is_empty() && (readers.is_empty() || rng.percent(50)) {
         let pool: Vec<usize> = members(board.pool).collect();
         let posting = rng.pick(&pool) as u64;
         return Some(Call::Order { posting });
@@ -180,6 +233,18 @@ fn with_cut(rng: &mut Prng, board: &Board, mut call: Call) -> Call {
     call
 }
 
+/// Whether the lead or the share of offers asks for one more. The share does not while many postings are in no
+/// record: with all that a board holds under way, few would come through, and a drain would take long.
+fn wants_offer(rng: &mut Prng, board: &Board, mix: &Mix) -> bool {
+    let offered = board.postings.len();
+    if mix.offers != 0 && (offered as u64) < lead(mix.taste) {
+        return true;
+    }
+    let records = board.sites.iter().map(|site| site.record.len());
+    let open = offered.saturating_sub(records.max().unwrap_or(0));
+    open < MANY && rng.percent(mix.offers)
+}
+
 /// A call that the board accepts, if one was found.
 fn good_call(rng: &mut Prng, board: &Board, mix: &Mix) -> Option<Call> {
     let up: Vec<u64> = (0..u64::from(board.n))
@@ -192,7 +257,7 @@ fn good_call(rng: &mut Prng, board: &Board, mix: &Mix) -> Option<Call> {
         });
     }
     let room = board.postings.len() < POSTINGS;
-    let offers = room && rng.percent(mix.offers);
+    let offers = room && wants_offer(rng, board, mix);
     let waiting = if offers {
         None
     } else {
@@ -216,7 +281,8 @@ fn good_call(rng: &mut Prng, board: &Board, mix: &Mix) -> Option<Call> {
 /// f is soon used up and then hides refusal 15.
 fn blind_call(rng: &mut Prng, board: &Board, mix: &Mix) -> Call {
     let site = rng.below(board.n.into());
-    let posting = rng.below(board.postings.len() as u64 + 1);
+    // The first number not offered is among them, as long as there is one that a file has room for.
+    let posting = rng.below(POSTINGS.min(board.postings.len() + 1) as u64);
     match rng.below(40) {
         0..=9 => good_offer(rng, site, mix),
         10..=19 => Call::Receive {
@@ -235,7 +301,9 @@ fn blind_call(rng: &mut Prng, board: &Board, mix: &Mix) -> Call {
 /// The next call of a run on a started board.
 pub fn next_call(rng: &mut Prng, board: &Board, mix: &Mix) -> Call {
     let odd = rng.percent(mix.odd);
-    let good = if odd && rng.percent(40) {
+    // On a full board a few in any mix, so that offers are refused there.
+    let full = board.postings.len() == POSTINGS;
+    let good = if odd && rng.percent(40) || full && rng.percent(4) {
         None
     } else {
         good_call(rng, board, mix)

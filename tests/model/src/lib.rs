@@ -1,5 +1,5 @@
 // Holds: the parts of the model of the posting board, and the readings taken where its paper is open.
-// Rests on: document 01 (the law), Figure 1 of document 003 (the two rounds), docs/FORMATS.md (a board as a row); nothing else.
+// Rests on: document 01 (the law), W2 of document 02, Figure 1 of document 003 (the two rounds), docs/FORMATS.md (rows); no more.
 //
 // Readings, each with its reason. R: refusals. S: steps. B: what a board is. P: program.
 //
@@ -40,9 +40,11 @@
 // B7  Where several causes of 6 apply, the first in the order of its list is named. A THIRD of a posting not
 //     offered has no owner to go to, and such a posting in the pool or the log none to finish it: it is named
 //     as not offered.
-// B8  In a row of numbers a list longer than 64 names one twice: no more than 64 postings are offered, so it does,
+// B8  In a row of numbers a list longer than 256 names one twice: no more than 256 postings are offered, so it does,
 //     or else it names one not offered. A third round under a number not offered names that posting.
 // B9  In a row, slots from n on have no meaning (B2). No rule speaks of them, so every call leaves them as they are.
+// B10 In a row, a set is four numbers where it was one, posting 0 in the first: W2 says "four 64-bit words in every
+//     part of the board", and nothing else of the row is named, so all the rest keeps its order.
 //
 // P1  A malformed file is `F 1` even if its n, f or matrix would be refused: 1 is the lowest number.
 // P2  Each line printed ends with a line feed and has no space at its end.
@@ -83,5 +85,5 @@ pub use posting::{
 pub use program::run;
 pub use refusal::Refusal;
 pub use runfile::{decode, encode, Run, MAX_EVENTS};
-pub use set::{POSTINGS, SITES};
+pub use set::{Set, POSTINGS, SITES, WORDS};
 pub use site::Site;

@@ -1,7 +1,7 @@
 // Holds: random run files as bytes: sound ones, ones with a refused start, and malformed ones.
 // Rests on: gen, prng, runfile.
 
-use crate::gen::{legal_start, random_mix, random_run, refused_start};
+use crate::gen::{legal_start, mix_for, random_mix, random_run, refused_start};
 use crate::prng::Prng;
 use crate::runfile::{encode, encode_event, Run, EVENT, HEADER, MAX_EVENTS};
 
@@ -31,7 +31,7 @@ pub const FLAWS: [Flaw; 8] = [
 /// A well-formed file with an accepted start.
 pub fn sound_file(rng: &mut Prng, events: usize) -> Vec<u8> {
     let start = legal_start(rng);
-    let mix = random_mix(rng);
+    let mix = mix_for(rng, events);
     let run = random_run(rng, start, events, &mix);
     encode(&run).expect("a mix that is not wide fits the file")
 }

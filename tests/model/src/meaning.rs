@@ -4,57 +4,57 @@
 use crate::board::Board;
 use crate::flight::{Flight, FORMS, SECOND, THIRD};
 use crate::numbers::*;
-use crate::set::{members, POSTINGS, SITES};
+use crate::set::{members, POSTINGS, SITES, WORDS};
 use crate::site::{Site, Thirds};
 
 /// The first place where a row is not the sound board given. Bits without meaning are passed over.
 pub fn differs(row: &[u64], board: &Board) -> Option<usize> {
-    let Meaning { values, bits } = Meaning::of(board);
-    (0..NUMBERS).find(|&place| (row[place] ^ values[place]) & bits[place] != 0)
+    let mut first: Option<usize> = None;
+    tell(board, |place, value, bits| {
+        if (row[place] ^ value) & bits != 0 && first.is_none_or(|at| place < at) {
+            first = Some(place);
+        }
+    });
+    first
 }
 
 /// Writes a sound board into a row. What has no meaning stays.
 pub fn write(board: &Board, row: &mut [u64]) {
-    let Meaning { values, bits } = Meaning::of(board);
-    for place in 0..NUMBERS {
-        row[place] = row[place] & !bits[place] | values[place];
-    }
+    tell(board, |place, value, bits| {
+        row[place] = row[place] & !bits | value;
+    });
 }
 
-/// By place: the bits that have a meaning, and what they are.
-struct Meaning {
-    values: Vec<u64>,
-    bits: Vec<u64>,
+/// Tells of each place that has a meaning, once: the place, the value, and the bits that have it.
+fn tell(board: &Board, told: impl FnMut(usize, u64, u64)) {
+    Meaning(told).put_board(board);
 }
 
-impl Meaning {
-    fn of(board: &Board) -> Meaning {
-        let mut meaning = Meaning {
-            values: vec![0; NUMBERS],
-            bits: vec![0; NUMBERS],
-        };
-        meaning.put(N, board.n);
-        meaning.put(F, board.f);
-        meaning.put(MATRIX, board.matrix);
-        meaning.put(DOWN, board.down);
-        meaning.put(OFFERED, board.postings.len() as u64);
+struct Meaning<T>(T);
+
+impl<T: FnMut(usize, u64, u64)> Meaning<T> {
+    fn put_board(&mut self, board: &Board) {
+        self.put(N, board.n);
+        self.put(F, board.f);
+        self.put(MATRIX, board.matrix);
+        self.put(DOWN, board.down);
+        self.put(OFFERED, board.postings.len() as u64);
         for (m, p) in board.postings.iter().enumerate() {
-            meaning.put_all(posting(m, 0), [p.owner, p.kind, p.a, p.b]);
-            meaning.put(posting(m, AMOUNT), p.amount);
+            self.put_all(posting(m, 0), [p.owner, p.kind, p.a, p.b]);
+            self.put(posting(m, AMOUNT), p.amount);
         }
         for (s, site) in board.sites.iter().enumerate().take(board.n.into()) {
-            meaning.put_site(s, site);
+            self.put_site(s, site);
         }
         for m in 0..POSTINGS {
             let owned = board.postings.get(m).map(|p| usize::from(p.owner));
             let thirds = owned.map_or(Thirds::NONE, |owner| board.sites[owner].thirds[m]);
             let Thirds { heard, with, union } = thirds;
-            meaning.put_all(third(m, 0), [heard, with]);
-            meaning.put(third(m, UNION), union);
+            self.put_all(third(m, 0), [heard, with]);
+            self.put_all(third(m, UNION), union.words);
         }
-        meaning.put_flight(&board.flight);
-        meaning.put_oracle(board);
-        meaning
+        self.put_flight(&board.flight);
+        self.put_oracle(board);
     }
 
     fn put(&mut self, place: usize, value: impl Into<u64>) {
@@ -62,8 +62,7 @@ impl Meaning {
     }
 
     fn put_bits(&mut self, place: usize, value: u64, bits: u64) {
-        self.values[place] = value & bits;
-        self.bits[place] = bits;
+        (self.0)(place, value & bits, bits);
     }
 
     fn put_all(&mut self, first: usize, values: impl IntoIterator<Item = impl Into<u64>>) {
@@ -73,10 +72,10 @@ impl Meaning {
     }
 
     fn put_site(&mut self, s: usize, it: &Site) {
-        self.put_all(
-            site(s, 0),
-            [it.seen, it.held, it.stepped, it.finished, it.told],
-        );
+        let sets = [it.seen, it.held, it.stepped, it.finished, it.told];
+        for (k, set) in sets.iter().enumerate() {
+            self.put_all(site(s, WORDS * k), set.words);
+        }
         self.put_all(site(s, HEARD), it.seconds.iter().map(|x| x.heard));
         self.put_all(site(s, HEARD_GOOD), it.seconds.iter().map(|x| x.good));
         self.put(site(s, READ), it.place as u64);
@@ -94,16 +93,16 @@ impl Meaning {
                 let seconds = flight.to[SECOND][m][from];
                 self.put_bits(good(m, from), flight.good[m][from].into(), seconds.into());
                 if flight.to[THIRD][m][from] != 0 {
-                    self.put(carried(m, from), flight.carried[m][from]);
+                    self.put_all(carried(m, from), flight.carried[m][from].words);
                 }
             }
         }
     }
 
     fn put_oracle(&mut self, board: &Board) {
-        self.put(POOL, board.pool);
+        self.put_all(POOL, board.pool.words);
         for m in members(board.entered()) {
-            self.put(entry(m), board.entries[m]);
+            self.put_all(entry(m), board.entries[m].words);
         }
         self.put(LOGGED, board.log.len() as u64);
         self.put_all(log(0), board.log.iter().copied());

@@ -2,10 +2,10 @@
 // Rests on: set, flight; docs/FORMATS.md, whose table this is.
 
 use crate::flight::FORMS;
-use crate::set::{POSTINGS, SITES};
+use crate::set::{POSTINGS, SITES, WORDS};
 
-/// How many numbers a board is.
-pub const NUMBERS: usize = 4728;
+/// How many numbers a board is. A set of postings is its words, one number each, the lowest postings first.
+pub const NUMBERS: usize = FIRST_LOG + POSTINGS;
 
 pub const N: usize = 0;
 pub const F: usize = 1;
@@ -18,9 +18,9 @@ const FIRST_THIRD: usize = FIRST_SITE + SITE * SITES;
 const FIRST_TO: usize = FIRST_THIRD + PARTS * POSTINGS;
 const FIRST_GOOD: usize = FIRST_TO + FORMS * POSTINGS * SITES;
 const FIRST_CARRIED: usize = FIRST_GOOD + POSTINGS * SITES;
-pub const POOL: usize = FIRST_CARRIED + POSTINGS * SITES;
-const FIRST_ENTRY: usize = POOL + 1;
-pub const LOGGED: usize = FIRST_ENTRY + POSTINGS;
+pub const POOL: usize = FIRST_CARRIED + WORDS * POSTINGS * SITES;
+const FIRST_ENTRY: usize = POOL + WORDS;
+pub const LOGGED: usize = FIRST_ENTRY + WORDS * POSTINGS;
 const FIRST_LOG: usize = LOGGED + 1;
 
 /// Of a posting: owner, kind, account a, account b, amount.
@@ -29,15 +29,15 @@ pub const OWNER: usize = 0;
 pub const AMOUNT: usize = 4;
 
 /// Of a third round: the sites heard, those whose set had the posting, the union of the sets.
-pub const PARTS: usize = 3;
+pub const PARTS: usize = UNION + WORDS;
 pub const UNION: usize = 2;
 
 /// Of a site: its five sets, what it heard, how much of the log it read, and its record.
-pub const SITE: usize = 199;
+pub const SITE: usize = RECORD + POSTINGS;
 pub const SETS: usize = 5;
-pub const FINISHED: usize = 3;
-pub const TOLD: usize = 4;
-pub const HEARD: usize = SETS;
+pub const FINISHED: usize = 3 * WORDS;
+pub const TOLD: usize = 4 * WORDS;
+pub const HEARD: usize = SETS * WORDS;
 pub const HEARD_GOOD: usize = HEARD + POSTINGS;
 pub const READ: usize = HEARD_GOOD + POSTINGS;
 pub const DELIVERED: usize = READ + 1;
@@ -66,20 +66,21 @@ pub fn good(m: usize, from: usize) -> usize {
     FIRST_GOOD + SITES * m + from
 }
 
-/// What a THIRD in flight carries.
+/// The first word of what a THIRD in flight carries.
 pub fn carried(m: usize, from: usize) -> usize {
-    FIRST_CARRIED + SITES * m + from
+    FIRST_CARRIED + WORDS * (SITES * m + from)
 }
 
+/// The first word of the set that an entry carries.
 pub fn entry(m: usize) -> usize {
-    FIRST_ENTRY + m
+    FIRST_ENTRY + WORDS * m
 }
 
 pub fn log(k: usize) -> usize {
     FIRST_LOG + k
 }
 
-/// How many bits the number at a place below 4,728 has.
+/// How many bits the number at a place below `NUMBERS` has.
 pub fn width(place: usize) -> u32 {
     match place {
         N | F | DOWN => 8,
@@ -90,11 +91,11 @@ pub fn width(place: usize) -> u32 {
             _ => 8,
         },
         FIRST_SITE..FIRST_THIRD => match (place - FIRST_SITE) % SITE {
-            0..SETS | READ | DELIVERED => 64,
+            0..HEARD | READ | DELIVERED => 64,
             _ => 8,
         },
         FIRST_THIRD..FIRST_TO => match (place - FIRST_THIRD) % PARTS {
-            UNION => 64,
+            UNION.. => 64,
             _ => 8,
         },
         FIRST_TO..FIRST_CARRIED => 8,

@@ -6,13 +6,19 @@ use crate::call::Call;
 use crate::posting::{ACCOUNTS, MAX_AMOUNT, MAX_RATE};
 use crate::prng::Prng;
 
-/// A number near the edge of what a field allows; wide ones look sound in their low bits.
+/// A number near the edge of what a field allows; wide ones look sound in their low bits. Those that are not wide
+/// fit a byte, and with 256 postings offered each of them is a posting.
 fn odd_number(rng: &mut Prng, edge: u64, wide: bool) -> u64 {
     let inside = rng.below(edge);
     if wide && rng.percent(30) {
         return rng.pick(&[inside + 256, inside + (1 << 32), inside | 1 << 63, u64::MAX]);
     }
-    rng.pick(&[inside, inside, edge, edge - 1, edge + 1, 254]) % 256
+    let number = rng.pick(&[inside, inside, edge, edge - 1, edge + 1, 254, 255]);
+    if wide {
+        number
+    } else {
+        number.min(255)
+    }
 }
 
 fn odd_amount(rng: &mut Prng, wide: bool) -> u64 {
@@ -25,10 +31,11 @@ fn odd_amount(rng: &mut Prng, wide: bool) -> u64 {
     rng.pick(&[edge, edge, any, (1 << 32) - 1])
 }
 
-/// Mostly too long: a cut that fits uses up a crash, and then every later one is 14.
+/// Mostly too long: a cut that fits uses up a crash, and then every later one is 14. In a file 254 is the longest,
+/// as 255 stands for uncut there.
 fn odd_cut(rng: &mut Prng, n: u64, wide: bool) -> Option<u64> {
-    let j = odd_number(rng, n + 1, wide);
     let beyond = if wide { u64::MAX } else { 254 };
+    let j = odd_number(rng, n + 1, wide).min(beyond);
     let long = Some(n + 1);
     rng.pick(&[None, Some(2), Some(j), long, long, long, Some(beyond)])
 }

@@ -65,8 +65,8 @@ pub fn conflict(matrix: u16, p: &Posting, q: &Posting) -> bool {
     share && says(matrix, p.kind, q.kind)
 }
 
-/// Posts one posting with sound fields. Exact on figures reached from zeros by 64 postings: no position
-/// passes 64 × 10^9 in size, so a product stays below 10^15.
+/// Posts one posting with sound fields. Exact on figures reached from zeros by 256 postings: no position
+/// passes 256 × 10^9 in size, so a product stays below 10^16.
 pub fn effect(posting: &Posting, figures: &mut [i64; FIGURES]) {
     let a = 4 * usize::from(posting.a);
     let b = 4 * usize::from(posting.b);

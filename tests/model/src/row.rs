@@ -6,7 +6,7 @@ use crate::cause::Cause;
 use crate::flight::{Flight, FORMS};
 use crate::numbers::*;
 use crate::posting::Posting;
-use crate::set::{POSTINGS, SITES};
+use crate::set::{Set, POSTINGS, SITES, WORDS};
 use crate::site::{Seconds, Site, Thirds};
 
 /// The board that a row is, each number taken modulo its width; else why the row is no board of the model, which
@@ -24,8 +24,8 @@ pub fn read(row: &[u64]) -> Result<Board, Cause> {
         down: row.byte(DOWN),
         postings: (0..offered as usize).map(|m| row.posting(m)).collect(),
         flight: row.flight(),
-        pool: row.at(POOL),
-        entries: std::array::from_fn(|m| row.at(entry(m))),
+        pool: row.set(POOL),
+        entries: std::array::from_fn(|m| row.set(entry(m))),
         log: row.list(LOGGED, log(0))?,
         ..Board::blank()
     };
@@ -57,6 +57,13 @@ impl Row<'_> {
         self.at(place) as u8
     }
 
+    /// The set whose first word stands at a place.
+    fn set(&self, first: usize) -> Set {
+        Set {
+            words: std::array::from_fn(|w| self.at(first + w)),
+        }
+    }
+
     fn posting(&self, m: usize) -> Posting {
         let [owner, kind, a, b] = std::array::from_fn(|field| self.byte(posting(m, field)));
         Posting {
@@ -80,7 +87,7 @@ impl Row<'_> {
     /// A site without its third rounds.
     fn site(&self, s: usize) -> Result<Site, Cause> {
         let [seen, held, stepped, finished, told] =
-            std::array::from_fn(|set| self.at(site(s, set)));
+            std::array::from_fn(|k| self.set(site(s, WORDS * k)));
         Ok(Site {
             seen,
             held,
@@ -102,7 +109,7 @@ impl Row<'_> {
         let thirds = Thirds {
             heard: self.byte(third(m, 0)),
             with: self.byte(third(m, 1)),
-            union: self.at(third(m, UNION)),
+            union: self.set(third(m, UNION)),
         };
         let Some(posting) = board.postings.get(m) else {
             return match thirds {
@@ -123,7 +130,7 @@ impl Row<'_> {
                     flight.to[form][m][from] = self.byte(to(form, m, from));
                 }
                 flight.good[m][from] = self.byte(good(m, from));
-                flight.carried[m][from] = self.at(carried(m, from));
+                flight.carried[m][from] = self.set(carried(m, from));
             }
         }
         flight

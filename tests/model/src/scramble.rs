@@ -1,10 +1,11 @@
 // Holds: random changes that leave a board sound yet often beyond what any run reaches.
-// Rests on: board, prng, sound, flight, set.
+// Rests on: board, posting, prng, sound, flight, set.
 
 use crate::board::Board;
 use crate::flight::{DELIVER, FIRST};
+use crate::posting::Posting;
 use crate::prng::Prng;
-use crate::set::{one, site as bit};
+use crate::set::{below, one, site as bit, Set, POSTINGS};
 
 /// Does so many changes; one that would make the board unsound is undone.
 pub fn scramble(rng: &mut Prng, board: &mut Board, changes: usize) {
@@ -13,11 +14,12 @@ pub fn scramble(rng: &mut Prng, board: &mut Board, changes: usize) {
             return;
         }
         let before = board.clone();
-        match rng.below(4) {
-            0 => change_sets(rng, board),
-            1 => change_heard(rng, board),
-            2 => change_flight(rng, board),
-            _ => change_lists(rng, board),
+        match rng.below(81) {
+            0..20 => change_sets(rng, board),
+            20..40 => change_heard(rng, board),
+            40..60 => change_flight(rng, board),
+            60..80 => change_lists(rng, board),
+            _ => add_postings(rng, board),
         }
         if !board.is_sound() {
             *board = before;
@@ -33,8 +35,20 @@ fn any_site(rng: &mut Prng, board: &Board) -> usize {
     rng.below(board.n.into()) as usize
 }
 
-fn any_set(rng: &mut Prng, board: &Board) -> u64 {
-    rng.word() & rng.word() & crate::set::below(board.postings.len())
+fn any_set(rng: &mut Prng, board: &Board) -> Set {
+    let words = std::array::from_fn(|_| rng.word() & rng.word());
+    Set { words } & below(board.postings.len())
+}
+
+/// Postings like those offered, so that the other changes reach high numbers without a long run before.
+fn add_postings(rng: &mut Prng, board: &mut Board) {
+    let any = rng.within(board.postings.len() as u64, POSTINGS as u64) as usize;
+    let wanted = rng.pick(&[any, any, POSTINGS - 1, POSTINGS]);
+    while board.postings.len() < wanted {
+        let like = board.postings[any_posting(rng, board)];
+        let owner = any_site(rng, board) as u8;
+        board.postings.push(Posting { owner, ..like });
+    }
 }
 
 fn change_sets(rng: &mut Prng, board: &mut Board) {
@@ -76,8 +90,10 @@ fn change_flight(rng: &mut Prng, board: &mut Board) {
             board.flight.send_second(m, from, bit(to), good);
         }
         2 => {
-            let itself = if rng.percent(50) { one(m) } else { 0 };
-            let set = any_set(rng, board) | itself;
+            let mut set = any_set(rng, board);
+            if rng.percent(50) {
+                set |= one(m);
+            }
             board.flight.send_third(m, from, board.owner(m), set);
         }
         _ => board.flight.to[DELIVER][m][from] ^= bit(to),

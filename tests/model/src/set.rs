@@ -1,37 +1,116 @@
-// Holds: sets of postings as 64-bit masks and sets of sites as 8-bit masks.
+// Holds: sets of postings as words of 64 bits, and sets of sites as 8-bit masks.
 // Rests on: nothing.
 
-/// Postings that a board can hold; one bit each.
-pub const POSTINGS: usize = 64;
+use std::array::from_fn;
+use std::ops::{BitAnd, BitAndAssign, BitOr, BitOrAssign, BitXorAssign, Not};
+
+/// Postings that a board can hold. A posting number fits a byte; a count of postings need not.
+pub const POSTINGS: usize = 256;
+/// Words of a set of postings.
+pub const WORDS: usize = POSTINGS / WORD;
+const WORD: usize = u64::BITS as usize;
 /// Sites that a board can have; bit 7 of a mask is spare and always names a site of n or more.
 pub const SITES: usize = 7;
 
-pub fn one(posting: usize) -> u64 {
-    1 << posting
+// Posting numbers are kept as bytes and each byte is one, so a set has a bit for whatever a list names.
+const _: () = assert!(POSTINGS - 1 == u8::MAX as usize && POSTINGS == WORDS * WORD);
+
+/// A set of postings: posting m is bit m % 64 of word m / 64.
+#[derive(Clone, Copy, Debug, Default, PartialEq, Eq)]
+pub struct Set {
+    pub words: [u64; WORDS],
 }
 
-pub fn has(set: u64, posting: usize) -> bool {
-    set >> posting & 1 == 1
-}
+impl Set {
+    pub const EMPTY: Set = Set { words: [0; WORDS] };
+    pub const ALL: Set = Set {
+        words: [u64::MAX; WORDS],
+    };
 
-/// The postings below `count`, which may be anything up to 64.
-pub fn below(count: usize) -> u64 {
-    if count >= POSTINGS {
-        u64::MAX
-    } else {
-        one(count) - 1
+    pub fn is_empty(self) -> bool {
+        self == Set::EMPTY
     }
 }
 
+impl BitOr for Set {
+    type Output = Set;
+    fn bitor(self, other: Set) -> Set {
+        let words = from_fn(|w| self.words[w] | other.words[w]);
+        Set { words }
+    }
+}
+
+impl BitAnd for Set {
+    type Output = Set;
+    fn bitand(self, other: Set) -> Set {
+        let words = from_fn(|w| self.words[w] & other.words[w]);
+        Set { words }
+    }
+}
+
+impl Not for Set {
+    type Output = Set;
+    fn not(self) -> Set {
+        let words = self.words.map(|word| !word);
+        Set { words }
+    }
+}
+
+impl BitOrAssign for Set {
+    fn bitor_assign(&mut self, other: Set) {
+        *self = *self | other;
+    }
+}
+
+impl BitAndAssign for Set {
+    fn bitand_assign(&mut self, other: Set) {
+        *self = *self & other;
+    }
+}
+
+impl BitXorAssign for Set {
+    fn bitxor_assign(&mut self, other: Set) {
+        let words = from_fn(|w| self.words[w] ^ other.words[w]);
+        *self = Set { words };
+    }
+}
+
+pub fn one(posting: usize) -> Set {
+    let mut set = Set::EMPTY;
+    set.words[posting / WORD] = 1 << (posting % WORD);
+    set
+}
+
+/// The set of the postings listed.
+pub fn of(postings: impl IntoIterator<Item = usize>) -> Set {
+    let all = postings.into_iter();
+    all.fold(Set::EMPTY, |set, posting| set | one(posting))
+}
+
+pub fn has(set: Set, posting: usize) -> bool {
+    set.words[posting / WORD] >> (posting % WORD) & 1 == 1
+}
+
+/// The postings below `count`, which may be anything.
+pub fn below(count: usize) -> Set {
+    let words = from_fn(|w| match count.saturating_sub(WORD * w) {
+        here @ 0..WORD => (1 << here) - 1,
+        _ => u64::MAX,
+    });
+    Set { words }
+}
+
 /// The members in rising number.
-pub fn members(mut set: u64) -> impl Iterator<Item = usize> {
+pub fn members(mut set: Set) -> impl Iterator<Item = usize> {
+    let mut w = 0;
     std::iter::from_fn(move || {
-        if set == 0 {
-            return None;
+        while *set.words.get(w)? == 0 {
+            w += 1;
         }
-        let lowest = set.trailing_zeros() as usize;
-        set &= set - 1;
-        Some(lowest)
+        let word = &mut set.words[w];
+        let lowest = word.trailing_zeros() as usize;
+        *word &= *word - 1;
+        Some(WORD * w + lowest)
     })
 }
 

@@ -1,7 +1,7 @@
 // Holds: what one site keeps, and how it hears SECONDs and THIRDs and delivers.
 // Rests on: set.
 
-use crate::set::{has, has_site, one, site, POSTINGS};
+use crate::set::{has, has_site, one, site, Set, POSTINGS};
 
 /// SECONDs received for one posting: the sites heard, and those that said GOOD.
 #[derive(Clone, Copy, Debug, PartialEq, Eq)]
@@ -15,17 +15,17 @@ pub struct Seconds {
 pub struct Thirds {
     pub heard: u8,
     pub with: u8,
-    pub union: u64,
+    pub union: Set,
 }
 
 #[derive(Clone, Debug, PartialEq, Eq)]
 pub struct Site {
-    pub seen: u64,
-    pub held: u64,
-    pub stepped: u64,
-    pub finished: u64,
+    pub seen: Set,
+    pub held: Set,
+    pub stepped: Set,
+    pub finished: Set,
     /// Postings whose DELIVER has come.
-    pub told: u64,
+    pub told: Set,
     pub seconds: [Seconds; POSTINGS],
     pub thirds: [Thirds; POSTINGS],
     /// Log entries read.
@@ -41,11 +41,11 @@ impl Thirds {
     pub const NONE: Thirds = Thirds {
         heard: 0,
         with: 0,
-        union: 0,
+        union: Set::EMPTY,
     };
 
     /// These with one more heard.
-    pub fn and(self, posting: usize, from: usize, carried: u64) -> Thirds {
+    pub fn and(self, posting: usize, from: usize, carried: Set) -> Thirds {
         let with = if has(carried, posting) { site(from) } else { 0 };
         Thirds {
             heard: self.heard | site(from),
@@ -62,11 +62,11 @@ fn counts(heard: u8, from: usize, quorum: u32) -> bool {
 
 impl Site {
     pub const BLANK: Site = Site {
-        seen: 0,
-        held: 0,
-        stepped: 0,
-        finished: 0,
-        told: 0,
+        seen: Set::EMPTY,
+        held: Set::EMPTY,
+        stepped: Set::EMPTY,
+        finished: Set::EMPTY,
+        told: Set::EMPTY,
         seconds: [Seconds::NONE; POSTINGS],
         thirds: [Thirds::NONE; POSTINGS],
         place: 0,
@@ -82,7 +82,7 @@ impl Site {
     }
 
     /// FIRST m, with C(m) given: whether the SECOND to send is GOOD.
-    pub fn first(&mut self, m: usize, family: u64) -> bool {
+    pub fn first(&mut self, m: usize, family: Set) -> bool {
         self.seen |= one(m);
         self.seen & family == one(m)
     }
@@ -99,7 +99,7 @@ impl Site {
 
     /// The SECOND step of m, with C(m) given: the set that THIRD carries. m joins seen here too, since
     /// SECONDs may overtake FIRST.
-    pub fn step(&mut self, m: usize, family: u64, n: u8) -> u64 {
+    pub fn step(&mut self, m: usize, family: Set, n: u8) -> Set {
         self.seen |= one(m);
         self.stepped |= one(m);
         let Seconds { heard, good } = self.seconds[m];
@@ -110,7 +110,7 @@ impl Site {
     }
 
     /// Hears a THIRD that counts; whether it is the one that completes the quorum.
-    pub fn hear_third(&mut self, m: usize, from: usize, carried: u64, quorum: u32) -> bool {
+    pub fn hear_third(&mut self, m: usize, from: usize, carried: Set, quorum: u32) -> bool {
         self.thirds[m] = self.thirds[m].and(m, from, carried);
         self.thirds[m].heard.count_ones() == quorum
     }

@@ -6,19 +6,16 @@ use crate::cause::{Cause, CAUSES};
 use crate::flight::THIRD;
 use crate::posting::{fields_ok, Posting};
 use crate::refusal::Refusal;
-use crate::set::{below, has, members, one, site as bit, POSTINGS, SITES};
+use crate::set::{below, has, members, of, one, site as bit, Set, POSTINGS, SITES};
 use crate::site::{Seconds, Site, Thirds};
 
-/// The postings of a list that a set can name.
-fn set_of(list: &[u8]) -> u64 {
-    let named = list.iter().map(|&m| usize::from(m));
-    named
-        .filter(|&m| m < POSTINGS)
-        .fold(0, |set, m| set | one(m))
+/// The postings that a list names.
+fn set_of(list: &[u8]) -> Set {
+    of(list.iter().map(|&m| usize::from(m)))
 }
 
 fn names_twice(list: &[u8]) -> bool {
-    let mut met = [false; 256];
+    let mut met = [false; POSTINGS];
     list.iter()
         .any(|&m| std::mem::replace(&mut met[usize::from(m)], true))
 }
@@ -57,7 +54,7 @@ impl Board {
             Cause::Twice => self.lists().any(names_twice),
             Cause::PastLog => self.present().iter().any(|s| s.place > self.log.len()),
             Cause::NotFinished => members(self.entered()).any(|m| self.unfinished(m)),
-            Cause::PoolAndLog => self.pool & set_of(&self.log) != 0,
+            Cause::PoolAndLog => !(self.pool & set_of(&self.log)).is_empty(),
         }
     }
 
@@ -73,7 +70,7 @@ impl Board {
     }
 
     /// The postings whose entry is in the pool or the log.
-    pub fn entered(&self) -> u64 {
+    pub fn entered(&self) -> Set {
         self.pool | set_of(&self.log)
     }
 
@@ -95,11 +92,11 @@ impl Board {
     fn names_not_offered(&self) -> bool {
         let offered = self.postings.len();
         let listed = self.lists().flatten().any(|&m| usize::from(m) >= offered);
-        listed || self.postings_named() & !below(offered) != 0
+        listed || !(self.postings_named() & !below(offered)).is_empty()
     }
 
     /// The postings that sets, messages, entries and what was received name.
-    fn postings_named(&self) -> u64 {
+    fn postings_named(&self) -> Set {
         let mut set = self.pool;
         for m in members(self.entered()) {
             set |= self.entries[m];

@@ -3,7 +3,7 @@
 
 mod common;
 
-use common::{no, start};
+use common::{no, start, DRAIN};
 use model::posting::{CALLED, MAX_AMOUNT, NET, POSITION, RATE_OF, SETTLED};
 use model::prng::Prng;
 use model::*;
@@ -62,7 +62,7 @@ fn effects_are_exact() {
         let mut figures = [0; FIGURES];
         let mut wide = [[0; 4]; ACCOUNTS];
         let accounts = rng.pick(&[2, 3, 16]);
-        for _ in 0..64 {
+        for _ in 0..POSTINGS {
             let p = any_posting(&mut rng, accounts);
             effect(&p, &mut figures);
             wide_effect(&p, &mut wide);
@@ -79,20 +79,20 @@ fn effects_are_exact() {
 #[test]
 fn the_largest_books() {
     let mut board = start(3, 0);
-    for _ in 0..62 {
+    for _ in 0..254 {
         board.offer(0, 0, 3, 7, MAX_AMOUNT, None).unwrap();
     }
-    board.drain(6784).unwrap();
+    board.drain(DRAIN).unwrap();
     board.offer(1, 1, 7, 7, 10_000, None).unwrap();
-    board.drain(6784).unwrap();
+    board.drain(DRAIN).unwrap();
     board.offer(2, 2, 7, 7, 0, None).unwrap();
-    board.drain(6784).unwrap();
+    board.drain(DRAIN).unwrap();
     let mut lent = [5; 64];
     board.books(2, &mut lent).unwrap();
-    assert_eq!(lent[4 * 3 + POSITION], 62_000_000_000);
+    assert_eq!(lent[4 * 3 + POSITION], 254_000_000_000);
     assert_eq!(
         lent[4 * 7..4 * 8],
-        [-62_000_000_000, 10_000, 62_000_000_000, 0]
+        [-254_000_000_000, 10_000, 254_000_000_000, 0]
     );
     assert!(sum_to_zero(&lent));
 }
@@ -103,7 +103,7 @@ fn where_the_figures_stand() {
     let offers = [(0, 4, 9, 1001), (1, 9, 9, 250), (2, 9, 9, 0), (3, 9, 9, 0)];
     for (kind, a, b, amount) in offers {
         board.offer(1, kind, a, b, amount, None).unwrap();
-        board.drain(6784).unwrap();
+        board.drain(DRAIN).unwrap();
     }
     let mut wanted = [0; 64];
     wanted[4 * 4 + POSITION] = 1001;

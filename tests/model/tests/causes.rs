@@ -4,12 +4,13 @@
 mod common;
 
 use common::{rich, start};
+use model::set::one;
 use model::*;
 
 type Change = (Cause, fn(&mut Board));
 
 /// Changes to a board with postings 0 delivered, 1 in the log and 2 in the pool.
-const ALONE: [Change; 17] = [
+const ALONE: [Change; 20] = [
     (Cause::Start, |b| b.f = 2),
     (Cause::Start, |b| b.matrix |= 2),
     (Cause::Owner, |b| b.postings[0].owner = 3),
@@ -17,9 +18,12 @@ const ALONE: [Change; 17] = [
     (Cause::ThirdElsewhere, |b| b.flight.to[THIRD][0][1] = 2),
     (Cause::TooMany, |b| {
         let p = b.postings[0];
-        b.postings.resize(65, p);
+        b.postings.resize(257, p);
     }),
-    (Cause::NotOffered, |b| b.sites[0].seen |= 8),
+    (Cause::NotOffered, |b| b.sites[0].seen |= one(3)),
+    (Cause::NotOffered, |b| b.sites[0].told |= one(64)),
+    (Cause::NotOffered, |b| b.entries[2] |= one(128)),
+    (Cause::NotOffered, |b| b.flight.carried[1][0] |= one(255)),
     (Cause::NotOffered, |b| b.sites[1].record.push(3)),
     (Cause::NotOffered, |b| b.flight.to[THIRD][3][1] = 1),
     (Cause::NotOffered, |b| b.log.push(255)),
@@ -28,8 +32,8 @@ const ALONE: [Change; 17] = [
     (Cause::Twice, |b| b.log.push(1)),
     (Cause::Twice, |b| b.sites[1].record.push(0)),
     (Cause::PastLog, |b| b.sites[0].place = 2),
-    (Cause::NotFinished, |b| b.sites[1].finished &= !4),
-    (Cause::PoolAndLog, |b| b.pool |= 2),
+    (Cause::NotFinished, |b| b.sites[1].finished &= !one(2)),
+    (Cause::PoolAndLog, |b| b.pool |= one(1)),
 ];
 
 #[test]
@@ -83,7 +87,7 @@ fn any_board_may_be_asked() {
     board.postings.resize(300, p);
     board.flight.to = [[[255; SITES]; POSTINGS]; FORMS];
     board.log = (0..=255).collect();
-    board.pool = u64::MAX;
+    board.pool = Set::ALL;
     for site in &mut board.sites {
         site.record = vec![255; 300];
         site.place = usize::MAX;

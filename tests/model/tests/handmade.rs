@@ -3,7 +3,7 @@
 
 mod common;
 
-use common::{no, receive, start};
+use common::{low, no, receive, start};
 use model::set::one;
 use model::*;
 
@@ -43,11 +43,11 @@ fn a_cut_resend_replaces_only_what_went_out() {
 fn a_third_sent_again_replaces_its_like() {
     let mut board = two();
     (0..3).for_each(|s| receive(&mut board, FIRST, 0, 0, s));
-    board.flight.send_third(0, 1, 0, 0b10);
+    board.flight.send_third(0, 1, 0, low(0b10));
     receive(&mut board, SECOND, 0, 0, 1);
     receive(&mut board, SECOND, 0, 2, 1);
     assert_eq!(board.flight.to[THIRD][0][1], 0b001);
-    assert_eq!(board.flight.carried[0][1], 0b01);
+    assert_eq!(board.flight.carried[0][1], low(0b01));
 }
 
 #[test]
@@ -56,7 +56,7 @@ fn later_seconds_and_thirds_have_no_effect() {
     (0..3).for_each(|s| receive(&mut board, FIRST, 0, 0, s));
     board.sites[1].seconds[0].heard = 0b110;
     board.sites[2].stepped = one(0);
-    board.flight.send_third(0, 2, 0, 0b1);
+    board.flight.send_third(0, 2, 0, low(0b1));
     board.sites[0].thirds[0].heard = 0b011;
     let before = board.sites.clone();
     receive(&mut board, SECOND, 0, 0, 1);
@@ -64,20 +64,21 @@ fn later_seconds_and_thirds_have_no_effect() {
     receive(&mut board, SECOND, 0, 1, 1);
     receive(&mut board, THIRD, 0, 2, 0);
     assert_eq!(board.sites, before);
-    assert_eq!(board.pool, 0);
+    assert_eq!(board.pool, Set::EMPTY);
 }
 
 #[test]
 fn goods_of_sites_not_heard_do_not_count() {
     let mut board = two();
     (0..3).for_each(|s| receive(&mut board, FIRST, 0, 0, s));
-    board.sites[1].seen = 0;
+    board.sites[1].seen = Set::EMPTY;
     board.sites[1].seconds[0].good = 0b100;
     board.flight.send_second(0, 1, 0b010, false);
     receive(&mut board, SECOND, 0, 0, 1);
     receive(&mut board, SECOND, 0, 1, 1);
-    assert_eq!((board.sites[1].seen, board.sites[1].held), (1, 0));
-    assert_eq!(board.flight.carried[0][1], 0);
+    assert_eq!(board.sites[1].seen, low(1));
+    assert_eq!(board.sites[1].held, Set::EMPTY);
+    assert_eq!(board.flight.carried[0][1], Set::EMPTY);
     assert_eq!(board.flight.to[THIRD][0][1], 0b001);
 }
 
@@ -101,7 +102,7 @@ fn a_set_with_its_own_posting_keeps_rising_number() {
     board.offer(2, 3, 4, 4, 0, None).unwrap();
     board.sites[1].finished = one(1);
     board.pool = one(1);
-    board.entries[1] = 0b110;
+    board.entries[1] = low(0b110);
     board.sites[2].record = vec![2];
     board.order(1).unwrap();
     board.read(0, None).unwrap();

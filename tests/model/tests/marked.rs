@@ -3,7 +3,7 @@
 
 mod common;
 
-use common::{complete, no, receive, start};
+use common::{complete, low, no, receive, start, DRAIN};
 use model::posting::{CALL, CALLED, NET, POSITION, RATE, RATE_OF, TRADE};
 use model::prng::Prng;
 use model::set::has;
@@ -65,7 +65,7 @@ fn m6_whole_case() {
 
 #[test]
 fn m7_m8_drain_of_one_trade() {
-    for limit in [22, 23, 6784, u64::MAX] {
+    for limit in [22, 23, DRAIN, u64::MAX] {
         let mut board = start(3, 1);
         board.offer(0, 0, 1, 2, 1000, None).unwrap();
         assert_eq!(board.drain(limit), Ok((22, Ending::Quiet)));
@@ -99,8 +99,8 @@ fn m9_as_written() {
         let receipt = matches!(e, Call::Receive { .. });
         receipt && board.apply(&e).is_ok()
     }) {}
-    assert_eq!(board.pool, 0b11);
-    assert_eq!(board.entries[..2], [0, 0]);
+    assert_eq!(board.pool, low(0b11));
+    assert_eq!(board.entries[..2], [Set::EMPTY; 2]);
     assert!(board.sites[..3].iter().all(|s| s.record.is_empty()));
 }
 
@@ -121,11 +121,11 @@ fn m9_every_completion_pools_both() {
         let mut board = two_offers();
         complete(&mut board, &mut rng, m9_allows);
         assert!(board.is_quiet());
-        assert_eq!(board.entries[..2], [0, 0]);
+        assert_eq!(board.entries[..2], [Set::EMPTY; 2]);
         assert_eq!(board.log.len(), 2);
         for site in &board.sites[..3] {
             assert_eq!(site.record, board.log);
-            assert_eq!(site.held, 0);
+            assert_eq!(site.held, Set::EMPTY);
         }
     }
 }
@@ -145,7 +145,7 @@ fn m10_start() -> Board {
 fn m10_ends(board: &Board) {
     assert!(board.is_quiet());
     assert_eq!(board.log, [1]);
-    assert_eq!(board.entries[1], 0b01);
+    assert_eq!(board.entries[1], low(0b01));
     for site in &board.sites[..3] {
         assert!(has(site.told, 0) && !has(site.told, 1));
         assert_eq!(site.record, [0, 1]);
@@ -158,7 +158,7 @@ fn m10_as_written() {
     receive(&mut board, THIRD, 0, 0, 0);
     receive(&mut board, THIRD, 0, 2, 0);
     assert_eq!(board.flight.to[DELIVER][0][0], 0b111);
-    assert_eq!(board.drain(6784).unwrap().1, Ending::Quiet);
+    assert_eq!(board.drain(DRAIN).unwrap().1, Ending::Quiet);
     m10_ends(&board);
 }
 

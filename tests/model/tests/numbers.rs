@@ -3,8 +3,8 @@
 
 mod common;
 
-use common::{rich, start};
-use model::gen::{legal_start, next_call, random_mix};
+use common::{rich, start, DRAIN};
+use model::gen::{legal_start, mix_for, next_call, random_mix};
 use model::meaning::{differs, write};
 use model::numbers::*;
 use model::prng::Prng;
@@ -19,7 +19,7 @@ fn row_of(board: &Board) -> Vec<u64> {
 
 fn played(rng: &mut Prng, events: usize) -> Board {
     let (n, f, matrix) = legal_start(rng);
-    let mix = random_mix(rng);
+    let mix = mix_for(rng, events);
     let mut board = Board::start(n.into(), f.into(), matrix).0;
     for _ in 0..events {
         let call = next_call(rng, &board, &mix);
@@ -33,23 +33,25 @@ fn played(rng: &mut Prng, events: usize) -> Board {
 fn widths_are_those_of_the_table() {
     let mut widths = vec![8, 8, 16, 8, 64];
     let mut add = |times: usize, part: &[u32]| widths.extend(part.repeat(times));
-    add(64, &[8, 8, 8, 8, 32]);
+    add(256, &[8, 8, 8, 8, 32]);
     for _ in 0..7 {
-        add(5, &[64]);
-        add(128, &[8]);
+        add(5 * 4, &[64]);
+        add(512, &[8]);
         add(2, &[64]);
-        add(64, &[8]);
+        add(256, &[8]);
     }
-    add(64, &[8, 8, 64]);
-    add(4 * 64 * 7 + 64 * 7, &[8]);
-    add(64 * 7 + 1 + 64 + 1, &[64]);
-    add(64, &[8]);
-    assert_eq!(widths.len(), NUMBERS);
+    add(256, &[8, 8, 64, 64, 64, 64]);
+    add(4 * 256 * 7 + 256 * 7, &[8]);
+    add(4 * 256 * 7 + 4 + 4 * 256 + 1, &[64]);
+    add(256, &[8]);
+    assert_eq!((widths.len(), NUMBERS), (25764, 25764));
     assert!((0..NUMBERS).map(width).eq(widths));
     let places = [third(0, 0), to(0, 0, 0), good(0, 0), carried(0, 0), POOL];
-    assert_eq!(places, [1718, 1910, 3702, 4150, 4598]);
-    let places = [posting(63, 4), site(6, 198), entry(0), LOGGED, log(63)];
-    assert_eq!(places, [324, 1717, 4599, 4663, 4727]);
+    assert_eq!(places, [6815, 8351, 15519, 17311, 24479]);
+    let places = [posting(255, 4), site(6, 789), entry(0), LOGGED, log(255)];
+    assert_eq!(places, [1284, 6814, 24483, 25507, 25763]);
+    let ends = [third(255, PARTS), carried(255, 7), entry(256)];
+    assert_eq!(ends, [to(0, 0, 0), POOL, LOGGED]);
 }
 
 #[test]
@@ -86,7 +88,7 @@ fn what_has_no_meaning_makes_no_difference() {
         }
         write(&other, &mut row);
         assert_eq!(differs(&row, &board), None);
-        assert_eq!(board.drain(6784), other.drain(6784));
+        assert_eq!(board.drain(DRAIN), other.drain(DRAIN));
         write(&other, &mut row);
         assert_eq!(differs(&row, &board), None);
     }
@@ -104,11 +106,11 @@ fn every_number_is_held_against_the_board() {
         found.is_none()
     };
     let count = |bit| (0..NUMBERS).filter(|&place| idle(place, bit)).count();
-    let beyond = 5 * 61 + 4 * 199 + (64 - 2) + (64 - 1) + (64 - 1) + (64 - 1);
+    let beyond = 5 * 253 + 4 * 790 + (256 - 2) + (256 - 1) + (256 - 1) + (256 - 1);
     let in_flight = |form: usize| board.flight.to[form].as_flattened().iter();
     let seconds = in_flight(SECOND).filter(|&to| to & 1 == 1).count();
     let thirds = in_flight(THIRD).filter(|&to| *to != 0).count();
-    let beside = (448 - seconds) + (448 - thirds) + (64 - 2);
+    let beside = (1792 - seconds) + 4 * (1792 - thirds) + 4 * (256 - 2);
     assert!(thirds > 0);
     assert_eq!(count(0), beyond + beside);
 }
@@ -117,12 +119,16 @@ fn every_number_is_held_against_the_board() {
 fn rows_that_are_no_board() {
     let row = row_of(&rich());
     let with = |place: usize, value: u64| read(&replaced(&row, place as u64, value)).err();
-    assert_eq!(with(OFFERED, 65), Some(Cause::TooMany));
+    assert_eq!(with(OFFERED, 256), None);
+    assert_eq!(with(OFFERED, 257), Some(Cause::TooMany));
     assert_eq!(with(OFFERED, u64::MAX), Some(Cause::TooMany));
     assert_eq!(with(posting(2, OWNER), 7), Some(Cause::Owner));
     assert_eq!(with(posting(3, OWNER), 7), None);
-    assert_eq!(with(site(1, DELIVERED), 65), Some(Cause::Twice));
-    assert_eq!(with(site(3, DELIVERED), 65), None);
+    assert_eq!(with(site(1, DELIVERED), 256), None);
+    assert_eq!(with(site(1, DELIVERED), 257), Some(Cause::Twice));
+    assert_eq!(with(site(3, DELIVERED), 257), None);
+    assert_eq!(with(LOGGED, 256), None);
+    assert_eq!(with(LOGGED, 257), Some(Cause::Twice));
     assert_eq!(with(LOGGED, 1 << 63), Some(Cause::Twice));
     for part in 0..PARTS {
         assert_eq!(with(third(2, part), 4), None);
@@ -140,9 +146,14 @@ fn each_cause_in_a_row() {
         (posting(0, OWNER), 3, Cause::Owner),
         (posting(0, AMOUNT), 0, Cause::Fields),
         (to(THIRD, 0, 1), 3, Cause::ThirdElsewhere),
-        (OFFERED, 65, Cause::TooMany),
+        (OFFERED, 257, Cause::TooMany),
         (OFFERED, 2, Cause::NotOffered),
-        (site(2, HEARD + 63), 1, Cause::NotOffered),
+        (site(2, HEARD + 255), 1, Cause::NotOffered),
+        (site(1, TOLD + 1), 1, Cause::NotOffered),
+        (third(2, UNION + 2), 1, Cause::NotOffered),
+        (carried(1, 0) + 3, 1 << 63, Cause::NotOffered),
+        (entry(1) + 1, 1, Cause::NotOffered),
+        (POOL + 3, 1, Cause::NotOffered),
         (third(2, 0), 8, Cause::NoSuchSite),
         (site(0, RECORD + 1), 0, Cause::Twice),
         (site(1, READ), 2, Cause::PastLog),

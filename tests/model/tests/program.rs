@@ -1,11 +1,11 @@
 // Holds: the program's text byte for byte, the file's marks and bounds, and runs judged at each event.
 // Rests on: the model.
 
-use model::gen::{legal_start, random_mix, random_run};
+use model::gen::{legal_start, mix_for, random_run};
 use model::malform::{any_file, malformed_file, refused_file, sound_file, FLAWS};
 use model::prng::Prng;
 use model::program::show;
-use model::runfile::{EVENT, HEADER};
+use model::runfile::{decode_event, encode_event, EVENT, HEADER};
 use model::*;
 use std::fmt::Write;
 
@@ -68,6 +68,74 @@ fn records_log_and_down() {
     let end = "S 0 up 0 1\nS 1 up 0 1\nS 2 down 0 1\nL 0 1\nQ yes\n";
     assert!(text.ends_with(end), "{text}");
     assert!(text.lines().all(|l| !l.ends_with(' ')));
+}
+
+/// Posting 255 and the cut byte 255 have nothing to do with each other.
+#[test]
+fn the_last_posting_in_a_file() {
+    let mut events = vec![OFFER; 257];
+    events.extend([
+        [2, 0, 255, 0, 1, 0, 0, 0, 0, 255],
+        [2, 0, 255, 0, 1, 0, 0, 0, 0, 255],
+        [2, 0, 255, 0, 2, 0, 0, 0, 0, 4],
+        [2, 1, 255, 1, 0, 0, 0, 0, 0, 255],
+        [3, 255, 0, 0, 0, 0, 0, 0, 0, 255],
+        [2, 0, 255, 0, 2, 0, 0, 0, 0, 0],
+    ]);
+    let text = run(&file(&events));
+    let lines: Vec<&str> = text.lines().collect();
+    assert!(lines[..256].iter().all(|line| line.ends_with(" ok")));
+    let wanted = [
+        "E 257 no 10",
+        "E 258 ok",
+        "E 259 no 11",
+        "E 260 no 15",
+        "E 261 ok",
+        "E 262 no 12",
+        "E 263 ok",
+        "S 0 up",
+        "S 1 up",
+        "S 2 down",
+        "L",
+        "Q no",
+    ];
+    assert_eq!(lines[256..], wanted);
+}
+
+#[test]
+fn what_fits_an_event() {
+    let receive = |posting, cut| Call::Receive {
+        form: 3,
+        posting,
+        from: 1,
+        to: 2,
+        cut,
+    };
+    for (cut, byte) in [(None, 255), (Some(0), 0), (Some(254), 254)] {
+        let event = [2, 3, 255, 1, 2, 0, 0, 0, 0, byte];
+        assert_eq!(encode_event(&receive(255, cut)), Some(event));
+        assert_eq!(decode_event(&event), Some(receive(255, cut)));
+        assert_eq!(encode_event(&receive(256, cut)), None);
+    }
+    assert_eq!(encode_event(&receive(255, Some(255))), None);
+    let order = [3, 255, 0, 0, 0, 0, 0, 0, 0, 255];
+    assert_eq!(encode_event(&Call::Order { posting: 255 }), Some(order));
+    assert_eq!(encode_event(&Call::Order { posting: 256 }), None);
+}
+
+/// 256 RATEs of one account: a drain receives every FIRST before any SECOND, so all of them go by the log.
+#[test]
+fn a_text_of_all_postings() {
+    let mut board = Board::start(3, 1, 0x5B6C).0;
+    for m in 0..256 {
+        assert_eq!(board.offer(m % 3, 1, 4, 4, m, None), Ok(m as u8));
+    }
+    board.drain(27_136).unwrap();
+    let all = (0..256).fold(String::new(), |text, m| format!("{text} {m}"));
+    let mut text = String::new();
+    show(&board, &mut text);
+    let wanted = format!("S 0 up{all}\nS 1 up{all}\nS 2 up{all}\nL{all}\nQ yes\n");
+    assert!(text == wanted, "{text}");
 }
 
 #[test]
@@ -175,8 +243,8 @@ fn judged_runs_print_the_same() {
     let mut rng = Prng::new(32);
     for round in 0..60 {
         let start = legal_start(&mut rng);
-        let mix = random_mix(&mut rng);
         let events = if round % 20 == 0 { MAX_EVENTS } else { 300 };
+        let mix = mix_for(&mut rng, events);
         let whole = random_run(&mut rng, start, events, &mix);
         let mut board = Board::start(start.0.into(), start.1.into(), start.2).0;
         let mut text = String::new();

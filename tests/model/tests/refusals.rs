@@ -3,7 +3,7 @@
 
 mod common;
 
-use common::{no, receive, start};
+use common::{low, no, receive, start};
 use model::*;
 
 #[test]
@@ -81,7 +81,7 @@ fn fields() {
 #[test]
 fn offers_in_rising_number() {
     let mut board = start(3, 1);
-    for m in 0..64 {
+    for m in 0..256 {
         assert_eq!(board.offer(m % 3, 0, 1, 2, 9, None), Ok(m as u8));
     }
     let full = board.clone();
@@ -114,6 +114,8 @@ fn receipts_in_rising_number() {
         (256, 0, 0, 0),
         (0, 1, 0, 0),
         (0, 64, 0, 0),
+        (0, 255, 0, 0),
+        (0, 256, 0, 0),
         (0, 1 << 32, 0, 0),
         (0, 0, 1, 0),
         (3, 0, 0, 0),
@@ -147,7 +149,7 @@ fn pooled() -> Board {
 #[test]
 fn orders_and_reads_in_rising_number() {
     let mut board = pooled();
-    for posting in [2, 63, 64, 256, u64::MAX] {
+    for posting in [2, 63, 64, 255, 256, 257, u64::MAX] {
         assert_eq!(no(board.order(posting)), 12);
     }
     assert_eq!(no(board.read(3, Some(9))), 7);
@@ -177,7 +179,7 @@ fn cut_offer_and_cut_first() {
         board.offer(1, 0, 1, 2, 9, None).unwrap();
         board.receive(0, 0, 1, 0, Some(j)).unwrap();
         assert_eq!(board.flight.to[SECOND][0][0], [0, 1, 3, 7][j as usize]);
-        assert_eq!((board.sites[0].seen, board.down), (1, 1));
+        assert_eq!((board.sites[0].seen, board.down), (low(1), 1));
     }
 }
 
@@ -196,7 +198,7 @@ fn cut_second_third_deliver() {
         assert_eq!(no(cut.receive(1, 0, 1, 1, Some(2))), 15);
         assert_eq!(no(cut.receive(1, 0, 1, 1, Some(j))), 0);
         assert_eq!(u64::from(cut.flight.to[THIRD][0][1]), j);
-        assert_eq!((cut.sites[1].stepped, cut.sites[1].held), (1, 1));
+        assert_eq!((cut.sites[1].stepped, cut.sites[1].held), (low(1), low(1)));
     }
     (0..3).for_each(|s| receive(&mut board, SECOND, 0, 1, s));
     receive(&mut board, THIRD, 0, 2, 0);
@@ -205,7 +207,7 @@ fn cut_second_third_deliver() {
         assert_eq!(no(cut.receive(2, 0, 1, 0, Some(4))), 15);
         assert_eq!(no(cut.receive(2, 0, 1, 0, Some(j))), 0);
         assert_eq!(cut.flight.to[DELIVER][0][0], [0, 1, 3, 7][j as usize]);
-        assert_eq!((cut.sites[0].finished, cut.pool), (1, 0));
+        assert_eq!((cut.sites[0].finished, cut.pool), (low(1), Set::EMPTY));
     }
     receive(&mut board, THIRD, 0, 1, 0);
     for j in 0..=2 {
@@ -238,7 +240,7 @@ fn cut_third_with_a_pool_entry() {
         let mut cut = board.clone();
         assert_eq!(no(cut.receive(2, 0, 0, 0, Some(2))), 15);
         assert_eq!(no(cut.receive(2, 0, 0, 0, Some(j))), 0);
-        assert_eq!((cut.pool, cut.sites[0].finished), (j, 1));
+        assert_eq!((cut.pool, cut.sites[0].finished), (low(j), low(1)));
         assert!(cut.is_sound());
     }
 }

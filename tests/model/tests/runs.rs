@@ -3,27 +3,29 @@
 
 mod common;
 
-use common::tally::{check_agreement, check_quiet, play};
-use common::{choices, complete};
-use model::gen::{legal_start, next_call, random_mix, Mix, TASTES};
+use common::tally::{check_agreement, check_quiet, common_order, play};
+use common::{choices, complete, DRAIN};
+use model::gen::{legal_start, mix_for, next_call, random_mix, Mix, TASTES};
 use model::prng::Prng;
 use model::scramble::scramble;
+use model::set::of;
 use model::*;
-
-const DRAIN: u64 = 6784;
 
 #[test]
 fn random_runs() {
     let mut rng = Prng::new(1);
     let (mut accepted, mut done, mut pooled, mut downs) = (0, 0, 0, 0);
+    let (mut delivered, mut ordered) = (Set::EMPTY, Set::EMPTY);
     for round in 0..200 {
-        let mix = random_mix(&mut rng);
         let events = if round % 100 == 0 {
             4096
         } else {
             rng.below(500) as usize
         };
+        let mix = mix_for(&mut rng, events);
         let (mut board, taken) = play(&mut rng, &mix, events);
+        delivered |= of(common_order(&board).into_iter().map(usize::from));
+        ordered |= of(board.log.iter().map(|&m| m.into()));
         accepted += taken;
         done += events;
         check_agreement(&board);
@@ -46,6 +48,9 @@ fn random_runs() {
         pooled > 500 && downs > 100,
         "{pooled} in logs, {downs} down"
     );
+    let everywhere = |set: Set| set.words.iter().all(|&word| word != 0);
+    assert!(everywhere(delivered), "{delivered:x?}");
+    assert!(everywhere(ordered), "{ordered:x?}");
 }
 
 /// Without conflicts the log is never used, whatever is cut.
@@ -71,7 +76,7 @@ fn runs_without_conflict() {
             if !matches!(call, Call::Offer { .. }) {
                 let _ = board.apply(&call);
             }
-            assert!(board.pool == 0 && board.log.is_empty());
+            assert!(board.pool.is_empty() && board.log.is_empty());
         }
         board.drain(DRAIN).unwrap();
         check_quiet(&board);
@@ -116,13 +121,13 @@ fn quiet_leaves_nothing_to_do() {
         let (mut board, _) = play(&mut rng, &mix, 150);
         board.drain(DRAIN).unwrap();
         let before = board.clone();
-        for k in 0..5 * 65 * 8 * 8 {
-            let (form, posting, from, to) = (k / (65 * 64), k / 64 % 65, k / 8 % 8, k % 8);
+        for k in 0..5 * 257 * 8 * 8 {
+            let (form, posting, from, to) = (k / (257 * 64), k / 64 % 257, k / 8 % 8, k % 8);
             assert!(board
                 .receive_on_sound(form, posting, from, to, None)
                 .is_err());
         }
-        assert!((0..70).all(|m| board.order(m).is_err()));
+        assert!((0..260).all(|m| board.order(m).is_err()));
         assert!((0..9).all(|s| board.read(s, None).is_err()));
         assert_eq!(board, before);
     }

@@ -3,7 +3,7 @@
 
 use crate::ground::{Change, Ground};
 use model::numbers::*;
-use model::set::{members, one, site as bit};
+use model::set::{members, site as bit, WORDS};
 use model::{Call, Message, FORMS, SECOND, THIRD};
 
 impl Ground<'_> {
@@ -64,10 +64,10 @@ impl Ground<'_> {
 
     fn near_receipt(&mut self, message: &Message) -> Change {
         let [m, at] = [message.posting, message.to].map(usize::from);
-        let set = site(at, self.rng.below(SETS as u64) as usize);
+        let set = site(at, WORDS * self.rng.below(SETS as u64) as usize);
         match self.rng.below(12) {
             0 => self.other_set(set),
-            1 | 2 => (set, self.row[set] ^ one(m)),
+            1 | 2 => self.flipped(set, m),
             3 => self.near_start(),
             4 => self.posting_field(),
             5 => self.sent_by(m, at),

@@ -1,11 +1,11 @@
 // Holds: random runs without faults that carry their postings to the records of all sites.
 // Rests on: the model and its generator.
 
-use model::gen::{next_call, Mix};
+use model::gen::{next_call, Mix, LEADS, TASTES};
 use model::prng::Prng;
 use model::runfile::{encode, MAX_EVENTS};
 use model::set::{has, members};
-use model::{Board, Call, Message, Run, DELIVER, FIRST, SECOND};
+use model::{Board, Call, Message, Run, DELIVER, FIRST, POSTINGS, SECOND};
 
 /// Numbers for an accepted start: n, f and the matrix.
 pub type Start = (u8, u8, u16);
@@ -13,7 +13,7 @@ pub type Start = (u8, u8, u16);
 /// Postings under way at a time, as long as there are any left to offer.
 const UNDER_WAY: usize = 4;
 
-/// An offer on the accounts below a number, by any site.
+/// An offer on the accounts below a number, by any site; the board has room for it.
 pub(crate) fn offer(rng: &mut Prng, board: &Board, accounts: u64) -> Call {
     let mix = Mix {
         accounts,
@@ -22,7 +22,8 @@ pub(crate) fn offer(rng: &mut Prng, board: &Board, accounts: u64) -> Call {
         cuts: 0,
         odd: 0,
         wide: false,
-        taste: 0,
+        // the longest lead: it offers whatever is under way
+        taste: TASTES + LEADS - 1,
     };
     next_call(rng, board, &mix)
 }
@@ -78,7 +79,8 @@ fn call(rng: &mut Prng, board: &Board, postings: usize, accounts: u64) -> Option
 }
 
 /// A run that ends quiet or at the most events there may be. Receipts without effect come last, so that with f at
-/// its largest even 64 postings are in all records by then. Two events in a hundred repeat a receipt and are refused.
+/// its largest 64 postings are in all records by then, even of seven sites. Two events in a hundred repeat a receipt
+/// and are refused.
 pub fn carried_run(rng: &mut Prng, start: Start, postings: usize, accounts: u64) -> Run {
     let (n, f, matrix) = start;
     let (mut board, _) = Board::start(n.into(), f.into(), matrix);
@@ -108,13 +110,17 @@ pub fn carried_file(rng: &mut Prng, start: Start, postings: usize, accounts: u64
     encode(&run).expect("no call is larger than its fields")
 }
 
-/// A run file that offers so many postings and leaves the rest to a drain.
+/// A run file that offers so many postings and leaves the rest to a drain. Past the last that the board has room for,
+/// the same is offered again, and refused.
 pub fn offered_file(rng: &mut Prng, start: Start, postings: usize, accounts: u64) -> Vec<u8> {
     let (n, f, matrix) = start;
     let (mut board, _) = Board::start(n.into(), f.into(), matrix);
     let mut calls = Vec::new();
-    for _ in 0..postings {
-        let call = offer(rng, &board, accounts);
+    for k in 0..postings {
+        let call = match calls.last() {
+            Some(last) if k >= POSTINGS => *last,
+            _ => offer(rng, &board, accounts),
+        };
         let _ = board.apply_on_sound(&call);
         calls.push(call);
     }

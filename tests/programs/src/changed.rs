@@ -1,5 +1,5 @@
 // Holds: call_changed held to the model on files of many sorts: their boards as they are, with numbers changed, and where nothing is taken.
-// Rests on: programs, outcome, questions, untaken, counts, files, short; the model's rows.
+// Rests on: programs, outcome, questions, untaken, counts, files, short, stack; the model's rows.
 
 use crate::counts::Counts;
 use crate::files::{numbers, Sort, SORTS};
@@ -7,6 +7,7 @@ use crate::outcome::ask;
 use crate::programs::{left_by, Programs};
 use crate::questions::{as_left, question, Question};
 use crate::short::SHORT;
+use crate::stack::begin;
 use crate::untaken::untaken;
 use model::meaning::differs;
 use model::numbers::{fitted, replaced, NUMBERS};
@@ -40,9 +41,11 @@ pub fn compare_all(programs: &Programs, seed: u64) -> Result<Counts, String> {
         Ok(counts)
     };
     thread::scope(|scope| {
-        let second = scope.spawn(|| compare_half(1));
-        let mut counts = compare_half(0)?;
-        counts.join(second.join().expect("a comparison does not panic")?);
+        let halves = [0, 1].map(|half| begin(scope, move || compare_half(half)));
+        let mut counts = Counts::default();
+        for half in halves {
+            counts.join(half.join().expect("a comparison does not panic")?);
+        }
         Ok(counts)
     })
 }

@@ -4,7 +4,7 @@
 use crate::ground::{Change, Ground};
 use model::numbers::*;
 use model::posting::{MAX_AMOUNT, MAX_RATE};
-use model::set::{members, one, site as bit};
+use model::set::{members, site as bit, Set, WORDS};
 use model::{FORMS, POSTINGS, THIRD};
 
 impl Ground<'_> {
@@ -43,10 +43,13 @@ impl Ground<'_> {
 
     fn offered(&mut self) -> Change {
         let count = self.row[OFFERED];
-        let any = self.rng.below(POSTINGS as u64);
-        let beyond = self.rng.pick(&[65, 65, 256, 1 << 32, 1 << 63, u64::MAX]);
+        let all = POSTINGS as u64;
+        let any = self.rng.below(all);
+        let beyond = self
+            .rng
+            .pick(&[all + 1, all + 1, 1 << 32, 1 << 63, u64::MAX]);
         let near = self.rng.pick(&[count.wrapping_sub(1), count + 1]);
-        let drawn = [near, near, 0, any, 63, 64, beyond, beyond];
+        let drawn = [near, near, 0, any, all - 1, all, beyond, beyond];
         (OFFERED, self.rng.pick(&drawn))
     }
 
@@ -71,10 +74,10 @@ impl Ground<'_> {
         if !entered.is_empty() && self.rng.percent(50) {
             let m = self.rng.pick(&entered);
             let place = site(self.board.owner(m), FINISHED);
-            return (place, self.row[place] ^ one(m));
+            return self.flipped(place, m);
         }
         let set = self.rng.below(SETS as u64) as usize;
-        let place = site(self.site(), set);
+        let place = site(self.site(), WORDS * set);
         self.other_set(place)
     }
 
@@ -87,23 +90,27 @@ impl Ground<'_> {
     fn log_place(&mut self) -> Change {
         let log = self.board.log.len() as u64;
         let inside = self.rng.below(log + 1);
-        let past = self.rng.pick(&[log + 1, 64, 65, u64::MAX]);
+        let all = POSTINGS as u64;
+        let past = self.rng.pick(&[log + 1, all, all + 1, u64::MAX]);
         let place = site(self.site(), READ);
         (place, self.rng.pick(&[inside, inside, past]))
     }
 
-    /// A count or a number of a list that has room for 64. A full one most often gets a count beyond that.
+    /// A count or a number of a list that has room for all postings. A full one most often gets a count beyond that.
     pub fn list(&mut self, count: usize, first: usize) -> Change {
-        let length = self.row[count].min(POSTINGS as u64);
-        let full = length == POSTINGS as u64 && self.rng.percent(70);
+        let all = POSTINGS as u64;
+        let length = self.row[count].min(all);
+        let full = length == all && self.rng.percent(70);
         let shorter = self.rng.below(length + 1);
-        let longer = self.rng.pick(&[length + 1, length + 1, 64, 65, u64::MAX]);
+        let longer = self
+            .rng
+            .pick(&[length + 1, length + 1, all, all + 1, u64::MAX]);
         if full || self.rng.percent(50) {
             let other = self.rng.pick(&[shorter, longer]);
             return (count, if full { longer } else { other });
         }
-        let k = self.rng.below((length + 1).min(64));
-        let any = self.rng.pick(&[64, 128, 255]);
+        let k = self.rng.below((length + 1).min(all));
+        let any = self.rng.pick(&[64, 128, all - 1]);
         let m = self.posting() as u64;
         (first + k as usize, self.rng.pick(&[m, m, m, m, any]))
     }
@@ -115,7 +122,7 @@ impl Ground<'_> {
 
     fn third_round(&mut self) -> Change {
         let m = self.posting();
-        match self.rng.below(PARTS as u64) as usize {
+        match self.rng.below(UNION as u64 + 1) as usize {
             UNION => self.other_set(third(m, UNION)),
             part => self.other_sites(third(m, part)),
         }
@@ -138,7 +145,11 @@ impl Ground<'_> {
 
     /// The pool or what an entry carries; often a posting that is in the log, or that is finished.
     fn pool(&mut self) -> Change {
-        let finished = self.board.sites.iter().fold(0, |set, s| set | s.finished);
+        let finished = self
+            .board
+            .sites
+            .iter()
+            .fold(Set::EMPTY, |set, s| set | s.finished);
         let mut known: Vec<usize> = members(finished | self.board.entered()).collect();
         if self.rng.percent(60) && !self.board.log.is_empty() {
             known = self.board.log.iter().map(|&m| m.into()).collect();
@@ -151,15 +162,16 @@ impl Ground<'_> {
         if self.rng.percent(25) {
             return self.other_set(entry(m));
         }
-        (POOL, self.row[POOL] ^ one(m))
+        self.flipped(POOL, m)
     }
 
     /// The log; often with a posting that is in the pool.
     pub fn log(&mut self) -> Change {
         let length = self.board.log.len() as u64;
-        if self.board.pool != 0 && length > 0 && self.rng.percent(40) {
+        let pooled = members(self.board.pool).next();
+        if let Some(m) = pooled.filter(|_| length > 0 && self.rng.percent(40)) {
             let k = self.rng.below(length) as usize;
-            return (log(k), self.board.pool.trailing_zeros().into());
+            return (log(k), m as u64);
         }
         self.list(LOGGED, log(0))
     }

@@ -1,8 +1,9 @@
 // Holds: programs held to the model on one run file: the text printed, the numbers of answers, and drains with the books after them.
-// Rests on: programs, files; the model's generator of numbers.
+// Rests on: programs, files, stack; the model's generator of numbers.
 
 use crate::files::{numbers, Sort};
 use crate::programs::{Drains, Programs, MODEL, NONE};
+use crate::stack::on_large_stack;
 use model::prng::Prng;
 use model::{FIGURES, SITES};
 use text::statement::DRAIN;
@@ -141,6 +142,10 @@ fn same_books(
 
 /// Compares on all files of one sort. The error names the file too, so that it can be made anew.
 pub fn compare_sort(programs: &Programs, seed: u64, sort: &Sort) -> Result<Compared, String> {
+    on_large_stack(|| compare_files(programs, seed, sort))
+}
+
+fn compare_files(programs: &Programs, seed: u64, sort: &Sort) -> Result<Compared, String> {
     let mut total = Compared::default();
     for k in 0..sort.count {
         let mut rng = numbers(seed, sort, k);

@@ -1,9 +1,10 @@
 // Holds: run files of many sorts, each made anew from a seed, its sort and its number.
-// Rests on: carried, damage; the model's generators.
+// Rests on: carried, damage, full; the model's generators.
 
-use crate::carried::{carried_file, carried_run};
+use crate::carried::{carried_file, carried_run, offered_file};
 use crate::damage;
-use model::gen::{legal_matrix, random_mix, random_run, Mix};
+use crate::full::full_file;
+use model::gen::{legal_matrix, mix_for, random_run, Mix};
 use model::malform::{malformed_file, refused_file, FLAWS};
 use model::prng::Prng;
 use model::runfile::{encode, MAX_EVENTS};
@@ -41,13 +42,15 @@ pub(crate) const fn sort(
     Sort { name, count, make }
 }
 
-pub static SORTS: [Sort; 14] = [
+pub static SORTS: [Sort; 16] = [
     sort("mixed runs", 14 * 120, mixed),
     sort("runs with faults", 14 * 60, faulty),
     sort("odd arguments", 14 * 40, odd),
     sort("carried to the end", 14 * 15, carried),
     sort("carried, some cut", 14 * 15, cut_late),
     sort("long runs", 14 * 3, long),
+    sort("offers alone", 14 * COUNTS.len(), offers),
+    sort("full records", 5, |_, k| full_file(3 + k as u8)),
     sort("refused starts", 400, refused),
     sort("malformed", 8 * 80, malformed),
     sort("every start", damage::STARTS, |_, k| damage::start(k)),
@@ -86,7 +89,7 @@ fn run(rng: &mut Prng, k: usize, events: usize, mix: &Mix) -> Vec<u8> {
 fn mixed(rng: &mut Prng, k: usize) -> Vec<u8> {
     let most = rng.pick(&[20, 80, 200, 200, 600]);
     let events = rng.below(most) as usize;
-    let mix = random_mix(rng);
+    let mix = mix_for(rng, events);
     run(rng, k, events, &mix)
 }
 
@@ -97,7 +100,7 @@ fn faulty(rng: &mut Prng, k: usize) -> Vec<u8> {
         crashes: rng.pick(&[0, 1, 2]),
         cuts: rng.pick(&[1, 2, 5]),
         odd: rng.pick(&[0, 0, 5]),
-        ..random_mix(rng)
+        ..mix_for(rng, events)
     };
     run(rng, k, events, &mix)
 }
@@ -107,7 +110,7 @@ fn odd(rng: &mut Prng, k: usize) -> Vec<u8> {
     let odd = rng.pick(&[50, 90]);
     let mix = Mix {
         odd,
-        ..random_mix(rng)
+        ..mix_for(rng, events)
     };
     run(rng, k, events, &mix)
 }
@@ -140,8 +143,19 @@ fn cut_late(rng: &mut Prng, k: usize) -> Vec<u8> {
 
 fn long(rng: &mut Prng, k: usize) -> Vec<u8> {
     let fewer = rng.below(3) as usize;
-    let mix = random_mix(rng);
-    run(rng, k, MAX_EVENTS - fewer, &mix)
+    let events = MAX_EVENTS - fewer;
+    let mix = mix_for(rng, events);
+    run(rng, k, events, &mix)
+}
+
+/// Around the ends of a set's words, and one more than there is room for.
+const COUNTS: [usize; 8] = [0, 1, 63, 64, 65, 255, 256, 257];
+
+/// So many offers, for a drain to take to quiet.
+fn offers(rng: &mut Prng, k: usize) -> Vec<u8> {
+    let accounts = rng.pick(&[2, 4, 16]);
+    let start = start(rng, k);
+    offered_file(rng, start, COUNTS[k / STARTS.len()], accounts)
 }
 
 fn refused(rng: &mut Prng, _: usize) -> Vec<u8> {

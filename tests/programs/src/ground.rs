@@ -2,7 +2,7 @@
 // Rests on: the model's boards and rows.
 
 use model::prng::Prng;
-use model::set::{below, one, site as bit};
+use model::set::{below, site as bit, WORDS};
 use model::{Board, POSTINGS, SITES};
 
 /// A place and the value to put there.
@@ -35,11 +35,6 @@ impl Ground<'_> {
         self.rng.below(slots.into()) as usize
     }
 
-    /// A set of postings that were offered.
-    pub fn set(&mut self) -> u64 {
-        self.rng.word() & below(self.board.postings.len())
-    }
-
     /// A set of sites, most often of those of the board.
     pub fn sites(&mut self) -> u64 {
         let any = self.rng.below(256);
@@ -49,11 +44,22 @@ impl Ground<'_> {
         any & u64::from(self.board.everyone())
     }
 
-    /// A posting put into the set at a place, or taken out of it; else another set.
-    pub fn other_set(&mut self, place: usize) -> Change {
-        let flipped = self.row[place] ^ one(self.posting());
-        let set = self.set();
-        (place, self.rng.pick(&[flipped, flipped, flipped, set]))
+    /// A posting put into the set whose first word stands at a place, or taken out of it.
+    pub fn flipped(&self, first: usize, m: usize) -> Change {
+        let bits = u64::BITS as usize;
+        let place = first + m / bits;
+        (place, self.row[place] ^ 1 << (m % bits))
+    }
+
+    /// A posting put into the set whose first word stands at a place, or taken out of it; else another word of
+    /// postings that were offered.
+    pub fn other_set(&mut self, first: usize) -> Change {
+        let m = self.posting();
+        let flipped = self.flipped(first, m);
+        let w = self.rng.below(WORDS as u64) as usize;
+        let offered = below(self.board.postings.len()).words[w];
+        let other = (first + w, self.rng.word() & offered);
+        self.rng.pick(&[flipped, flipped, flipped, other])
     }
 
     /// A site put into the set at a place, or taken out of it; else another set.

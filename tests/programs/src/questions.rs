@@ -10,6 +10,7 @@ use model::prng::Prng;
 use model::row::read_sound;
 use model::runfile::{encode_event, EVENT, UNCUT};
 use model::{Board, Call, FIGURES, SITES};
+use text::statement::DRAIN as DRAIN_LIMIT;
 
 #[derive(Clone, Debug, PartialEq, Eq)]
 pub struct Question {
@@ -80,7 +81,7 @@ fn past(rng: &mut Prng, place: u64) -> u64 {
 fn any_limit(rng: &mut Prng) -> u64 {
     let few = rng.below(30);
     let word = rng.word();
-    rng.pick(&[0, 1, 2, few, few, 6784, u64::MAX, word])
+    rng.pick(&[0, 1, 2, few, few, DRAIN_LIMIT, u64::MAX, word])
 }
 
 /// Room for the books of n sites, or not quite, or for one site more than there can be.

@@ -3,15 +3,15 @@
 
 use crate::carried::{offer, offered_file, useful_calls};
 use crate::files::{sort, start, Sort};
-use model::gen::{random_mix, random_run};
+use model::gen::{legal_matrix, random_mix, random_run};
 use model::prng::Prng;
-use model::runfile::encode;
-use model::{Board, Call, Run, POSTINGS};
+use model::runfile::{encode, MAX_EVENTS};
+use model::{Board, Call, Run, DELIVER, POSTINGS};
 
 /// Short, since every change of a board plays its file anew; but for a few whose log and records are full.
 pub static SHORT: [Sort; 4] = [
     sort("short runs", 14 * 44, mixed),
-    sort("hurried runs", 14 * 140, hurried),
+    sort("hurried runs", 14 * 180, hurried),
     sort("offers alone", 14 * 16, offers),
     sort("full logs", 12, full_log),
 ];
@@ -100,16 +100,17 @@ fn offers(rng: &mut Prng, k: usize) -> Vec<u8> {
     offered_file(rng, start, postings, 16)
 }
 
-/// Postings that all conflict, offered before any is received: all go through the log. At the end, or soon before it,
-/// log and records are as long as they can be.
-fn full_log(rng: &mut Prng, k: usize) -> Vec<u8> {
-    let (n, f, matrix) = start(rng, k % 2);
+/// Postings that all conflict, offered before any is received: all but the first go through the log. At the end, or
+/// soon before it, log and records are as long as they can be.
+fn full_log(rng: &mut Prng, _: usize) -> Vec<u8> {
+    let (n, f, matrix) = (3, 1, legal_matrix(rng));
     let (mut board, _) = Board::start(n.into(), f.into(), matrix);
     let mut calls = Vec::new();
-    while let Some(call) = rate(rng, &board).or_else(|| board.next_event()) {
+    while let Some(call) = rate(rng, &board).or_else(|| voted_by_two(&board)) {
         let _ = board.apply_on_sound(&call);
         calls.push(call);
     }
+    assert!(calls.len() <= MAX_EVENTS);
     calls.truncate(calls.len() - rng.pick(&[0, 0, 1, 40]));
     let run = Run {
         n,
@@ -120,11 +121,21 @@ fn full_log(rng: &mut Prng, k: usize) -> Vec<u8> {
     encode(&run).expect("no call is larger than its fields")
 }
 
-/// A RATE of one account, as long as there is room for it.
+/// The next useful call where FIRSTs, SECONDs and THIRDs reach sites 0 and 1 alone: with three sites these two are
+/// enough, and a full board takes fewer events so than a file may have.
+fn voted_by_two(board: &Board) -> Option<Call> {
+    let voting = |call: &Call| match *call {
+        Call::Receive { form, to, .. } => form == DELIVER as u64 || to < 2,
+        _ => true,
+    };
+    useful_calls(board).into_iter().find(voting)
+}
+
+/// A RATE of one account by site 0 or 1, as long as there is room for it.
 fn rate(rng: &mut Prng, board: &Board) -> Option<Call> {
     let room = board.postings.len() < POSTINGS;
     room.then(|| Call::Offer {
-        site: rng.below(board.n.into()),
+        site: rng.below(2),
         kind: 1,
         a: 4,
         b: 4,

@@ -2,9 +2,10 @@
 // Rests on: programs, the model.
 
 use model::prng::Prng;
-use model::{decode, Call, MAX_EVENTS};
+use model::{decode, Call, MAX_EVENTS, POSTINGS};
 use programs::carried::carried_run;
 use programs::files::{numbers, SORTS, STARTS};
+use programs::full::full_file;
 use std::collections::{BTreeMap, BTreeSet};
 use std::sync::OnceLock;
 use text::played;
@@ -107,6 +108,21 @@ fn every_start_has_its_faults() {
         assert!(*length >= MAX_EVENTS - 2);
         assert_eq!(cuts.len(), if start.1 == 0 { 0 } else { 3 }, "{start:?}");
     }
+}
+
+/// The longest text that a run file was found to have: 4,096 events at seven sites whose records are full.
+#[test]
+fn full_records_make_the_longest_text() {
+    let text = model::run(&full_file(7));
+    let records = text.lines().filter(|line| line.starts_with('S'));
+    for record in records {
+        assert!(record.ends_with(" 254 255"), "{record}");
+        assert_eq!(record.split(' ').count(), 3 + POSTINGS);
+    }
+    assert!(text.contains("\nE 4096 no 10\n"));
+    let longest = files().iter().map(|file| model::run(file).len()).max();
+    assert_eq!(longest, Some(text.len()));
+    assert!(text.len() > 50_000, "{}", text.len());
 }
 
 #[test]

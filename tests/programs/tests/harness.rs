@@ -4,6 +4,8 @@
 use programs::compare::{compare, compare_sort};
 use programs::files::{numbers, SORTS};
 use programs::programs::{Programs, MODEL, NONE};
+use programs::stack::on_large_stack;
+use text::statement::DRAIN;
 
 /// The first sorts, which have by far the most events, are left to the comparison itself.
 #[test]
@@ -17,10 +19,12 @@ fn the_model_agrees_with_itself() {
 /// Whether a comparison on some mixed runs finds a difference that has this in its words.
 fn found(programs: Programs, words: &str) {
     let sort = &SORTS[0];
-    let cause = (0..60).find_map(|k| {
-        let mut rng = numbers(3, sort, k);
-        let file = sort.file(&mut rng, k);
-        compare(&programs, &file, &mut rng).err()
+    let cause = on_large_stack(|| {
+        (0..60).find_map(|k| {
+            let mut rng = numbers(3, sort, k);
+            let file = sort.file(&mut rng, k);
+            compare(&programs, &file, &mut rng).err()
+        })
     });
     let cause = cause.expect("a difference is found");
     assert!(cause.contains(words), "{cause}");
@@ -67,7 +71,7 @@ fn wrong_drains_are_found() {
     found(with(figure), "at 64");
     let early = |input: &[u8], limit: u64, out: &mut [i64]| {
         let done = (MODEL.run_drain)(input, limit / 64, out);
-        done.max(limit.min(6784))
+        done.max(limit.min(DRAIN))
     };
     found(with(early), "answers");
     let past = |input: &[u8], limit, out: &mut [i64]| {
@@ -87,7 +91,7 @@ fn wrong_drains_by_value_are_found() {
     let none = |_: &[u8], _, _: &mut [i64]| NONE;
     found(
         with(none),
-        "run_by_value with limit 6784 and room 451 answers",
+        &format!("run_by_value with limit {DRAIN} and room 451 answers"),
     );
     let figure = |input: &[u8], limit, out: &mut [i64]| {
         let answer = (MODEL.run_drain)(input, limit, out);

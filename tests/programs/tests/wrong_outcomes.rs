@@ -5,14 +5,14 @@ mod wrong;
 
 use model::numbers::{log, site, DOWN, NUMBERS};
 use model::row::read;
-use model::{FIGURES, SITES};
+use model::{FIGURES, POSTINGS, SITES};
 use programs::called::{BOOKS, DRAIN};
 use programs::programs::FILLED;
 use wrong::found;
 
-/// Where a board with fewer than 64 entries in its log has a number without meaning.
+/// Where a board whose log is not full has a number without meaning.
 fn idle() -> usize {
-    log(63)
+    log(POSTINGS - 1)
 }
 
 fn refused(answer: u64) -> bool {
@@ -30,7 +30,7 @@ fn boards_of_refused_calls() {
                 }
             })
         },
-        "refused, the row has 1 at 4727, the model 0",
+        &format!("refused, the row has 1 at {}, the model 0", idle()),
     );
     found(
         |given| {
@@ -81,7 +81,7 @@ fn boards_of_accepted_calls() {
                 }
             })
         },
-        "the number at 4727 has more than 8 bits",
+        &format!("the number at {} has more than 8 bits", idle()),
     );
     found(
         |given| {
@@ -123,7 +123,7 @@ fn boards_of_drains_and_books() {
                 }
             })
         },
-        "shown, the row has 1 at 4727",
+        "shown, the row has",
     );
 }
 

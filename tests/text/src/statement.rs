@@ -5,7 +5,7 @@ use model::{decode, Board, Refusal, Run, ACCOUNTS, FIGURES, SITES};
 use std::fmt::Write;
 
 /// A drain with this limit ends quiet on every board that a run reaches.
-pub const DRAIN: u64 = 6784;
+pub const DRAIN: u64 = 27_136;
 
 /// What the program `statement` prints. Refused input prints what `board` prints.
 pub fn statement(input: &[u8]) -> String {

@@ -6,7 +6,7 @@ use std::fs;
 use std::path::PathBuf;
 use text::{assemble, disassemble, played, statement};
 
-const NAMES: [&str; 4] = ["crash", "cut", "whole-case", "year"];
+const NAMES: [&str; 5] = ["crash", "cut", "full-day", "whole-case", "year"];
 
 fn folder() -> PathBuf {
     PathBuf::from(env!("CARGO_MANIFEST_DIR")).join("../../examples")
@@ -74,6 +74,19 @@ fn year() {
     for list in [&a, &b, &board.log] {
         let place = |m: u8| list.iter().position(|x| *x == m);
         assert!(place(8) < place(7) && place(8).is_some());
+    }
+}
+
+/// One entry carries all but its own posting, and one offer is too many.
+#[test]
+fn full_day() {
+    let (board, refused) = board("full-day");
+    assert_eq!(refused, 1);
+    assert!(text_of("full-day", "board.out").contains("no 10\n"));
+    assert_eq!(board.log, [255]);
+    assert_eq!(board.entries[255], model::set::below(255));
+    for site in &board.sites[..3] {
+        assert_eq!(site.record, (0..=255).collect::<Vec<u8>>());
     }
 }
 

@@ -6,8 +6,18 @@ pub mod naive;
 pub mod tally;
 
 use model::prng::Prng;
-use model::set::members;
-use model::{Board, Call, Message, Refusal, FIRST, FIXED_PAIRS, SECOND, THIRD};
+use model::set::{members, one};
+use model::{Board, Call, Message, Refusal, Set, FIRST, FIXED_PAIRS, SECOND, THIRD};
+
+/// The limit of a drain that surely ends quiet.
+pub const DRAIN: u64 = 27_136;
+
+/// The set of postings below 64 that a word is.
+pub fn low(word: u64) -> Set {
+    let mut set = Set::EMPTY;
+    set.words[0] = word;
+    set
+}
 
 pub fn start(n: u64, f: u64) -> Board {
     let (board, answer) = Board::start(n, f, FIXED_PAIRS);
@@ -29,7 +39,7 @@ pub fn receive(board: &mut Board, form: usize, posting: u64, from: u64, to: u64)
 pub fn rich() -> Board {
     let mut board = start(3, 1);
     board.offer(0, 0, 1, 2, 9, None).unwrap();
-    board.drain(6784).unwrap();
+    board.drain(DRAIN).unwrap();
     board.offer(0, 1, 4, 4, 250, None).unwrap();
     board.offer(1, 2, 4, 4, 0, None).unwrap();
     for (posting, to) in [(1, 0), (2, 1), (1, 2), (2, 0), (1, 1), (2, 2)] {
@@ -45,7 +55,7 @@ pub fn rich() -> Board {
     board.order(1).unwrap();
     board.read(0, None).unwrap();
     assert!(board.is_sound());
-    assert_eq!((board.log.as_slice(), board.pool), ([1].as_slice(), 0b100));
+    assert_eq!((board.log.as_slice(), board.pool), ([1].as_slice(), one(2)));
     assert_eq!(board.flight.to[THIRD][1][0], 0b001);
     board
 }

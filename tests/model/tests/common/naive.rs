@@ -198,7 +198,7 @@ impl Naive {
         if !fields_ok(kind, a, b, amount) {
             return Err(9);
         }
-        if self.postings.len() == 64 {
+        if self.postings.len() == 256 {
             return Err(10);
         }
         let m = self.postings.len() as u64;
@@ -293,6 +293,10 @@ impl Naive {
     }
 }
 
-fn mask(set: &Set) -> u64 {
-    set.iter().fold(0, |sum, &m| sum | 1 << m)
+fn mask(set: &Set) -> model::Set {
+    let mut mask = model::Set::EMPTY;
+    for &m in set {
+        mask.words[m as usize / 64] |= 1 << (m % 64);
+    }
+    mask
 }

@@ -4,7 +4,7 @@
 use super::choices;
 use model::gen::{legal_start, next_call, Mix};
 use model::prng::Prng;
-use model::set::has;
+use model::set::{has, of};
 use model::*;
 
 /// What a run has done so far, told from its calls alone.
@@ -80,11 +80,16 @@ impl Tally {
         let log: Vec<u64> = board.log.iter().map(|&m| m.into()).collect();
         assert_eq!(self.ordered, log);
         assert!(board.sites.iter().map(|s| s.place).eq(self.reads));
-        let used = !self.ordered.is_empty() || board.pool != 0;
+        let used = !self.ordered.is_empty() || !board.pool.is_empty();
         let p = &self.offered;
         let clash = (0..p.len()).any(|x| (0..x).any(|y| conflict(board.matrix, &p[x], &p[y])));
         assert!(clash || !used, "the log was used without a conflict");
     }
+}
+
+/// Where each posting stands in a record.
+fn places_in(record: &[u8]) -> [Option<usize>; POSTINGS] {
+    std::array::from_fn(|m| record.iter().position(|&k| usize::from(k) == m))
 }
 
 /// An order of all delivered postings that each record keeps for its conflicting pairs.
@@ -94,23 +99,25 @@ pub fn common_order(board: &Board) -> Vec<u8> {
         .iter()
         .map(|s| s.record.as_slice())
         .collect();
-    let mut left: Vec<u8> = (0..POSTINGS as u8)
+    let mut left: Vec<u8> = (0..POSTINGS)
+        .map(|m| m as u8)
         .filter(|m| records.iter().any(|r| r.contains(m)))
         .collect();
     let clash = |x: u8, y: u8| {
         let p = &board.postings;
         x != y && conflict(board.matrix, &p[x as usize], &p[y as usize])
     };
-    let before = |x: u8, y: u8, r: &[u8]| {
-        let place = |m| r.iter().position(|&k| k == m);
-        matches!((place(x), place(y)), (Some(a), Some(b)) if a < b)
+    let places: Vec<[Option<usize>; POSTINGS]> = records.iter().map(|r| places_in(r)).collect();
+    let before = |x: u8, y: u8, place: &[Option<usize>; POSTINGS]| {
+        let pair = (place[usize::from(x)], place[usize::from(y)]);
+        matches!(pair, (Some(a), Some(b)) if a < b)
     };
     let mut order = Vec::new();
     while !left.is_empty() {
         let free = left.iter().position(|&m| {
             !left
                 .iter()
-                .any(|&x| clash(x, m) && records.iter().any(|r| before(x, m, r)))
+                .any(|&x| clash(x, m) && places.iter().any(|p| before(x, m, p)))
         });
         order.push(left.remove(free.expect("the records share no order")));
     }
@@ -138,8 +145,8 @@ pub fn check_quiet(board: &Board) {
     assert!(board.is_quiet());
     assert!(choices(board, |_, _| true).is_empty());
     let n = usize::from(board.n);
-    let set = |s: usize| board.sites[s].record.iter().fold(0u64, |x, m| x | 1 << m);
-    let anywhere = (0..n).fold(0, |x, s| x | set(s));
+    let set = |s: usize| of(board.sites[s].record.iter().map(|&m| m.into()));
+    let anywhere = (0..n).fold(Set::EMPTY, |x, s| x | set(s));
     let mut books = Vec::new();
     for s in (0..n).filter(|&s| board.is_up(s)) {
         assert_eq!(set(s), anywhere);

@@ -6,6 +6,7 @@ use model::numbers::NUMBERS;
 use programs::changed::compare_changed;
 use programs::programs::{CallsChanged, Programs, MODEL};
 use programs::short::SHORT;
+use programs::stack::on_large_stack;
 use std::cell::Cell;
 
 /// What call_changed is given, for changing it before or after the model does the work.
@@ -83,6 +84,10 @@ fn call_wrong(
 
 /// The difference that a comparison on some files of each sort finds first must have this in its words.
 pub fn found_in(call_changed: CallsChanged, words: &str) {
+    on_large_stack(|| find(call_changed, words));
+}
+
+fn find(call_changed: CallsChanged, words: &str) {
     let programs = Programs {
         call_changed,
         ..MODEL
@@ -94,6 +99,8 @@ pub fn found_in(call_changed: CallsChanged, words: &str) {
 }
 
 pub fn found(wrong: Wrong, words: &str) {
-    WRONG.set(wrong);
-    found_in(call_wrong, words);
+    on_large_stack(|| {
+        WRONG.set(wrong);
+        find(call_wrong, words);
+    });
 }

@@ -8,11 +8,8 @@ use Rattle.by_bytes.proofs.bytes.site_record.Tie as tie
 mul-at : tie.Need-mul-at
 mul-at c = search needs
 
-byte-at-requires : tie.Need-byte-at-requires
-byte-at-requires c κs = search needs
-
-cast-count : tie.Need-cast-count
-cast-count c = search needs
+count-at-requires : tie.Need-count-at-requires
+count-at-requires c κs = search needs
 
 add-record-at : tie.Need-add-record-at
 add-record-at c = search needs
@@ -22,9 +19,8 @@ record-at-requires c κs = search needs
 
 returns : tie.Need-returns
 unfolding siteRecord
-returns c = rw (c .record-at .ensures, c .before .byte-at .ensures)
+returns c = rw (c .record-at .ensures, c .before .count-at .ensures)
 
 pub site-record-spec : {M : Type 1} → statement M
 site-record-spec =
-    tie.close
-    (tie.spec mul-at byte-at-requires cast-count add-record-at record-at-requires returns)
+    tie.close (tie.spec mul-at count-at-requires add-record-at record-at-requires returns)

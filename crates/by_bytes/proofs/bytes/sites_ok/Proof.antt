@@ -2,7 +2,7 @@
 -- Assumes nothing.
 use mathlib.Core.Path.{sym, _∙_}
 use borrow.Author.Needs.{needs}
-use Rattle.by_bytes.specs.Bytes.{sitesOk}
+use Rattle.by_bytes.specs.Bytes.{recordSize, sitesOk}
 use Rattle.by_bytes.proofs.Reading.{parts-few}
 use Rattle.by_bytes.proofs.bytes.sites_ok.Statement.{statement}
 use Rattle.by_bytes.proofs.bytes.sites_ok.Tie as tie
@@ -11,7 +11,7 @@ whole-requires : tie.Need-whole-requires
 whole-requires c κs = search needs
 
 each-ok-requires : tie.Need-each-ok-requires
-each-ok-requires c κs = parts-few _ 65 7 (sym (c .before .whole .ensures) ∙ c .if1 .taken)
+each-ok-requires c κs = parts-few _ recordSize 7 (sym (c .before .whole .ensures) ∙ c .if1 .taken)
 
 returns : tie.Need-returns
 unfolding sitesOk

@@ -15,8 +15,8 @@ wide-requires c κs = search needs
 mul-sites : tie.Need-mul-sites
 mul-sites c = search needs
 
-mul-longest : tie.Need-mul-longest
-mul-longest c = search needs
+longest-lines-requires : tie.Need-longest-lines-requires
+longest-lines-requires c κs = search needs
 
 add-longest : tie.Need-add-longest
 add-longest c = search needs
@@ -25,9 +25,9 @@ add-longest-2 : tie.Need-add-longest-2
 add-longest-2 c = search needs
 
 returns-2 : tie.Need-returns-2
-returns-2 c = rw (lt-ltb (c .before .before .args .events) mostEvents (c .before .if1 .left), c .wide .ensures)
+returns-2 c = rw (lt-ltb (c .before .before .before .args .events) mostEvents (c .before .before .if1 .left), c .longest-lines .ensures, c .before .wide .ensures)
 
 pub surely-fits-spec : {M : Type 1} → statement M
 surely-fits-spec =
     tie.close
-    (tie.spec returns wide-requires mul-sites mul-longest add-longest add-longest-2 returns-2)
+    (tie.spec returns wide-requires mul-sites longest-lines-requires add-longest add-longest-2 returns-2)

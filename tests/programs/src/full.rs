@@ -1,0 +1,86 @@
+// Holds: run files of as many events as there may be, after which the record of every site has all the postings that a board holds.
+// Rests on: the model.
+
+use model::posting::{CALL, RATE, TRADE};
+use model::runfile::{encode, MAX_EVENTS};
+use model::{Board, Call, Run, FIRST, FIXED_PAIRS, POSTINGS, SECOND, THIRD};
+
+/// The account that all postings share, so that the last, a CALL of it, conflicts with all others.
+const SHARED: u64 = 1;
+
+fn offer(kind: u8, b: u64, amount: u64) -> Call {
+    Call::Offer {
+        site: 0,
+        kind: kind.into(),
+        a: SHARED,
+        b,
+        amount,
+        cut: None,
+    }
+}
+
+/// A RATE, TRADEs with all other accounts in turn, and last a CALL.
+fn posting(m: u64) -> Call {
+    match m {
+        0 => offer(RATE, SHARED, 250),
+        _ if m + 1 == POSTINGS as u64 => offer(CALL, SHARED, 0),
+        _ => offer(TRADE, 2 + m % 14, 100 * m),
+    }
+}
+
+fn receipt(form: usize, posting: u64, from: u64, to: u64) -> Call {
+    Call::Receive {
+        form: form as u64,
+        posting,
+        from,
+        to,
+        cut: None,
+    }
+}
+
+/// The first n − f sites receive the FIRST of a posting, and the first `steps` of them the SECONDs of all of those.
+fn voted(m: u64, quorum: u64, steps: u64) -> Vec<Call> {
+    let firsts = (0..quorum).map(|to| receipt(FIRST, m, 0, to));
+    let seconds = (0..steps).flat_map(|to| (0..quorum).map(move |from| (from, to)));
+    let seconds = seconds.map(|(from, to)| receipt(SECOND, m, from, to));
+    firsts.chain(seconds).collect()
+}
+
+/// Site 0 steps every posting before the CALL is offered, and so holds them: the entry of the CALL carries all others,
+/// and whoever reads it delivers all there are.
+fn carried_by_one(n: u8, f: u8) -> Vec<Call> {
+    let quorum = u64::from(n - f);
+    let last = POSTINGS as u64 - 1;
+    let mut calls = Vec::new();
+    for m in 0..last {
+        calls.push(posting(m));
+        calls.extend(voted(m, quorum, 1));
+    }
+    calls.push(posting(last));
+    calls.extend(voted(last, quorum, quorum));
+    calls.extend((0..quorum).map(|from| receipt(THIRD, last, from, 0)));
+    calls.push(Call::Order { posting: last });
+    calls.extend((0..n.into()).map(|site| Call::Read { site, cut: None }));
+    calls
+}
+
+/// The file; what follows the last read is refused, and printed with the longest lines.
+pub fn full_file(n: u8) -> Vec<u8> {
+    let f = (n - 1) / 2;
+    let (mut board, _) = Board::start(n.into(), f.into(), FIXED_PAIRS);
+    let mut calls = carried_by_one(n, f);
+    for call in &calls {
+        assert!(board.apply_on_sound(call).is_ok(), "{call:?}");
+    }
+    let full = |site: &model::Site| site.record.len() == POSTINGS;
+    assert!(board.sites[..usize::from(n)].iter().all(full));
+    let again = posting(POSTINGS as u64 - 1);
+    calls.resize(MAX_EVENTS, again);
+    let run = Run {
+        n,
+        f,
+        matrix: FIXED_PAIRS,
+        calls,
+    };
+    encode(&run).expect("no call is larger than its fields")
+}
