@@ -7,7 +7,7 @@ use Rattle.cases.specs.Cases.{marked}
 use Rattle.cases.proofs.Computes.{computes}
 use Rattle.cases.proofs.Known.{known}
 use Rattle.cases.proofs.KnownBoards.{began-known, boards}
-use Rattle.cases.proofs.Ways.{Ways, over, _then_, ends, ways-hold, runs, plain, calling, emptying, looking, ways}
+use Rattle.cases.proofs.Ways.{Ways, over, _then_, ends, ways-hold, runs, plain, printing, calling, emptying, looking, ways}
 
 -- M1; M2 to M4; M5; M6; M7 and M8; M9 and M10
 unfoldable pub marked-ways : Ways marked
@@ -16,7 +16,7 @@ marked-ways =
     plain then plain then plain then plain then plain
     then plain then plain then plain then plain then plain then plain
     then plain then plain then plain then plain
-    then plain then calling began-known
+    then printing then calling began-known
     then emptying (runs began-known trading) then emptying (runs began-known trading)
     then looking began-known then looking began-known then looking began-known
     then over

@@ -1,13 +1,15 @@
--- Calls, runs, drains and books without cause 6, the test of soundness, which takes most steps; on a board sound and in shape they are the same.
--- Rests on Trials, on machine, drain and invariants. Assumes nothing.
+-- Calls, runs, drains, books and what is printed without cause 6, the test of soundness, which takes most steps; on a board sound and in shape they are the same.
+-- Rests on Trials, on machine, drain, runfile and invariants. Assumes nothing.
 use Prim.Native.Nat.{ℕ, zero, suc, _+_, _*_}
 use mathlib.Core.Path.{_≡_, refl, ap, _∙_}
 use mathlib.Core.Bool.{Bool, true, false, cond, not}
-use mathlib.Core.List.{List, [], _∷_, _++_}
-use lib.Dec.{ltb, leb}
+use mathlib.Core.Logic.{inl, inr}
+use mathlib.Core.List.{List, [], _∷_, _++_, map}
+use lib.Dec.{eqb, ltb, leb}
 use lib.IntN.{ℤ}
 use lib.ListN.{length}
-use Rattle.sets.proofs.Truth.{never}
+use borrow.Author.Tests.{eqb-true}
+use Rattle.sets.proofs.Truth.{test, never}
 use Rattle.sets.specs.Sets.{has, without}
 use Rattle.posting.specs.Conflicts.{tableWith}
 use Rattle.posting.specs.Records.{append}
@@ -26,7 +28,7 @@ use Rattle.machine.specs.declared.Outcome.{Outcome}
 use Rattle.machine.specs.Boards.{siteAt, boardTable, boardFlight, boardDown, boardPool}
 use Rattle.machine.specs.ByMask.{taken}
 use Rattle.machine.specs.Soundness.{isSound}
-use Rattle.machine.specs.Calls.{judged, starting, carriedOut, crashesSpent, noSuchSite, receiptOf, offering, receiving, ordering, reading, crashing}
+use Rattle.machine.specs.Calls.{refusalOf, judged, starting, carriedOut, crashesSpent, noSuchSite, receiptOf, offering, receiving, ordering, reading, crashing}
 use Rattle.machine.specs.Runs.{taking, accepted, running, answers, isQuiet}
 use Rattle.machine.specs.Figures.{Shown, figuresOf, figuresOfAll, shown, showing, showingAll}
 use Rattle.machine.proofs.Shapes.{BoardShape}
@@ -34,6 +36,10 @@ use Rattle.machine.proofs.SoundTest.{sound-facts, facts-sound}
 use Rattle.drain.specs.declared.Ending.the-variants.{Quiet, Spent}
 use Rattle.drain.specs.declared.Drained.{Drained}
 use Rattle.drain.specs.Drain.{Next, none, event, nextEvent, draining, drained}
+use Rattle.decoder.specs.RunFile.{setupOf, wellFormed, callsOf}
+use Rattle.printer.specs.Output.{refusedLine, printedOf}
+use Rattle.runfile.specs.Program.{endedOn, refusals, printedRun, printedFrom, printed}
+use Rattle.runfile.proofs.Programs.{start-accepted}
 use Rattle.invariants.proofs.Judged.{postingOf, offerStep, readStep, nextLogged}
 use Rattle.invariants.proofs.Reached.{GoodIf, good-sites, call-good}
 use Rattle.invariants.proofs.Start.{reached-good, reached-sound}
@@ -206,7 +212,31 @@ looked-known b (c ∷ l) limit g =
     looks-on-known (λ x. looked x l limit) known (accepted (taking b c .answer)) (taking b c) (looked-known (taking b c .board) l limit (call-good b g c))
     ∙ ap (λ (o : Outcome). looksOn known (accepted (o .answer)) o) (taking-known b (fit-sound b g) c)
 
+-- ---- what is printed for a run file
+
+unfoldable pub printedKnown : List ℕ → List ℕ
+printedKnown input =
+    let setup = setupOf input in
+    let calls = callsOf input in
+    let start = starting (setup .n) (setup .f) (setup .matrix) in
+    let refusal = refusalOf (start .answer) in
+    let last = runningKnown (start .board) calls in
+    let run = printedOf (map refusalOf (answersKnown (start .board) calls)) (endedOn last (isQuiet last)) in
+    cond (wellFormed input) (cond (eqb refusal 0) run (refusedLine refusal)) (refusedLine 1)
+
+pub printed-known : (input : List ℕ) → printed input ≡ printedKnown input
+unfolding printed printedFrom printedRun refusals printedKnown
+printed-known input =
+    let setup = setupOf input in
+    let start = starting (setup .n) (setup .f) (setup .matrix) in
+    elim (test (eqb (refusalOf (start .answer)) 0)) [
+      | inl t ↦
+          let fit = start-fit (setup .n) (setup .f) (setup .matrix) (start-accepted (setup .n) (setup .f) (setup .matrix) (eqb-true _ 0 t)) in
+          rw (running-known (start .board) (callsOf input) fit, answers-known (start .board) (callsOf input) fit)
+      | inr f ↦ rw f
+    ]
+
 -- An unfolding line with this name unfolds all of the above.
 unfoldable pub known : Bool
-unfolding takingKnown runningKnown answersKnown drainingKnown showingKnown showingAllKnown lookedKnown
+unfolding takingKnown runningKnown answersKnown drainingKnown showingKnown showingAllKnown lookedKnown printedKnown
 known = true

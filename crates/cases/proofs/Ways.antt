@@ -15,8 +15,8 @@ use Rattle.machine.specs.Figures.{Shown}
 use Rattle.drain.specs.declared.Drained.{Drained}
 use Rattle.drain.specs.Drain.{nextEvent, drained}
 use Rattle.invariants.proofs.Reached.{run-good}
-use Rattle.cases.specs.Trials.{Trial, calls, part, partOfAll, next, drain, look, Result, answered, numbers, does, ended, found, Case, trialOf, resultOf, results, Hold}
-use Rattle.cases.proofs.Known.{runningKnown, answersKnown, drainingKnown, showingKnown, showingAllKnown, lookedKnown, running-known, answers-known, drained-known, drained-fit, showing-known, showing-all-known, looked-known, Fit, fit-sound, start-fit}
+use Rattle.cases.specs.Trials.{Trial, calls, part, partOfAll, next, drain, look, prints, Result, answered, numbers, does, ended, text, found, Case, trialOf, resultOf, results, Hold}
+use Rattle.cases.proofs.Known.{runningKnown, answersKnown, drainingKnown, showingKnown, showingAllKnown, lookedKnown, running-known, answers-known, drained-known, drained-fit, showing-known, showing-all-known, looked-known, printedKnown, printed-known, Fit, fit-sound, start-fit}
 
 -- ---- a table
 
@@ -151,11 +151,16 @@ unfoldable pub choosing : {b : Board} → KnownSound b → Way (next b)
 unfolding found
 choosing {b = b} r = record { result = does (nextEvent (r .board)); same = ap (λ (x : Board). does (nextEvent x)) (r .same) }
 
+-- what is printed
+unfoldable pub printing : {file : List ℕ} → Way (prints file)
+unfolding found
+printing {file = file} = record { result = text (printedKnown file); same = ap text (printed-known file) }
+
 -- any trial on a board that is the same as another
 unfoldable pub instead : (try : Board → Trial) {b other : Board} → b ≡ other → Way (try b)
 instead try {b = b} {other = other} e = record { result = found (try other); same = ap (λ (x : Board). found (try x)) e }
 
 -- An unfolding line with this name unfolds all of the above.
 unfoldable pub ways : Bool
-unfolding ends starts runs empties calling emptying looking filling fillingAll choosing instead
+unfolding ends starts runs empties calling emptying looking filling fillingAll choosing printing instead
 ways = true
