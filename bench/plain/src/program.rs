@@ -9,16 +9,15 @@ use crate::text::Text;
 /// The answer where nothing is written.
 pub const NONE: u64 = u64::MAX;
 
-/// The board after the events of a run; beside it the refusal number of each event, 0 if it was accepted.
-fn played(run: &Run, numbers: &mut [u8]) -> Board {
-    let mut board = Board::start(run.setup);
+/// Does the events of a run on the board of its start, where it stands: a board handed back would be copied. Beside it
+/// the refusal number of each event, 0 if it was accepted.
+fn play(board: &mut Board, run: &Run, numbers: &mut [u8]) {
     for (number, call) in numbers.iter_mut().zip(run.calls()) {
         *number = match board.perform(call) {
             Ok(()) => 0,
             Err(refusal) => refusal as u8,
         };
     }
-    board
 }
 
 /// Writes what `board` prints for a run file. The answer is the count of bytes, or NONE if the slice is shorter.
@@ -26,7 +25,8 @@ pub fn run_file(input: &[u8], out: &mut [u8]) -> u64 {
     let written = match Run::decode(input) {
         Ok(run) => {
             let numbers = &mut [0; MAX_EVENTS][..run.length()];
-            let board = played(&run, numbers);
+            let mut board = Board::start(run.setup);
+            play(&mut board, &run, numbers);
             Text::Played(numbers, &board).write(out)
         }
         Err(refusal) => Text::Refused(refusal).write(out),
@@ -43,7 +43,8 @@ pub fn run_drain(input: &[u8], limit: u64, out: &mut [i64]) -> u64 {
     if out.len() < FIGURES * usize::from(run.setup.n) {
         return NONE;
     }
-    let mut board = played(&run, &mut [0; MAX_EVENTS]);
+    let mut board = Board::start(run.setup);
+    play(&mut board, &run, &mut [0; MAX_EVENTS]);
     let count = board.drain(limit);
     board.books(out);
     count
@@ -58,6 +59,6 @@ pub fn run_events(input: &[u8], numbers: &mut [u8]) -> u64 {
     let Some(numbers) = numbers.get_mut(..run.length()) else {
         return NONE;
     };
-    played(&run, numbers);
+    play(&mut Board::start(run.setup), &run, numbers);
     run.length() as u64
 }
