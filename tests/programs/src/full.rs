@@ -1,4 +1,4 @@
-// Holds: run files of as many events as there may be, after which the record of every site has all the postings that a board holds.
+// Holds: run files with all the postings that a board holds: in the record of every site at their end, or left to the longest drain there is.
 // Rests on: the model.
 
 use model::posting::{CALL, RATE, TRADE};
@@ -76,6 +76,24 @@ pub fn full_file(n: u8) -> Vec<u8> {
     assert!(board.sites[..usize::from(n)].iter().all(full));
     let again = posting(POSTINGS as u64 - 1);
     calls.resize(MAX_EVENTS, again);
+    file(n, f, calls)
+}
+
+/// Offers of TRADEs alone, by each site in turn: none conflict, so that each takes as many events as a posting can, and
+/// with seven sites no drain is longer.
+pub fn trades_file(n: u8, f: u8) -> Vec<u8> {
+    let trade = |m| Call::Offer {
+        site: m % u64::from(n),
+        kind: TRADE.into(),
+        a: m % 16,
+        b: (m + 1) % 16,
+        amount: 1 + m,
+        cut: None,
+    };
+    file(n, f, (0..POSTINGS as u64).map(trade).collect())
+}
+
+fn file(n: u8, f: u8, calls: Vec<Call>) -> Vec<u8> {
     let run = Run {
         n,
         f,

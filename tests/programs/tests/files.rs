@@ -2,13 +2,15 @@
 // Rests on: programs, the model.
 
 use model::prng::Prng;
-use model::{decode, Call, MAX_EVENTS, POSTINGS};
+use model::{decode, Call, FIGURES, MAX_EVENTS, POSTINGS, SITES};
 use programs::carried::carried_run;
 use programs::files::{numbers, SORTS, STARTS};
-use programs::full::full_file;
+use programs::full::{full_file, trades_file};
+use programs::programs::MODEL;
 use std::collections::{BTreeMap, BTreeSet};
 use std::sync::OnceLock;
 use text::played;
+use text::statement::DRAIN;
 
 const SEED: u64 = 1;
 
@@ -123,6 +125,15 @@ fn full_records_make_the_longest_text() {
     let longest = files().iter().map(|file| model::run(file).len()).max();
     assert_eq!(longest, Some(text.len()));
     assert!(text.len() > 50_000, "{}", text.len());
+}
+
+/// They need every event of the limit that is proved to be enough.
+#[test]
+fn longest_drains_use_the_whole_limit() {
+    for f in 0..4 {
+        let count = (MODEL.run_drain)(&trades_file(7, f), u64::MAX, &mut [0; FIGURES * SITES]);
+        assert_eq!(count, DRAIN);
+    }
 }
 
 #[test]
