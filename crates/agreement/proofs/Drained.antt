@@ -155,7 +155,7 @@ module _ (setup : Setup) (ok : setupOk setup ≡ true) (calls : List Call) (limi
       omega arith
 
   -- all that was accepted before, with the events and one more, are too many
-  too-many : (c : Call) → 27136 ≤ length (eventsOf limit b) → accepted (taking (running b (eventsOf limit b)) c .answer) ≡ true → isAction c ≡ true → ⊥
+  too-many : (c : Call) → capacity * ceilingOf 7 ≤ length (eventsOf limit b) → accepted (taking (running b (eventsOf limit b)) c .answer) ≡ true → isAction c ≡ true → ⊥
   too-many c many taken act =
       let events = eventsOf limit b in
       let more = calls ++ (events ++ (c ∷ [])) in
@@ -190,11 +190,11 @@ module _ (setup : Setup) (ok : setupOk setup ≡ true) (calls : List Call) (limi
     ends = elim (it .ends) [ inl q ↦ inl q | inr q ↦ inr (q .0, omega (arith, it .counts, q .1), q .2) ];
     enough = λ h. elim (it .ends) [
       | inl q ↦ q .0
-      | inr q ↦ absurd (spent h (q .1) (q .2))
+      | inr q ↦ absurd (spent (omega (arith, h)) (q .1) (q .2))
     ];
   }
     where
-      spent : 27136 ≤ limit → length (eventsOf limit b) ≡ limit → isQuiet (drained b limit .board) ≡ false → ⊥
+      spent : capacity * ceilingOf 7 ≤ limit → length (eventsOf limit b) ≡ limit → isQuiet (drained b limit .board) ≡ false → ⊥
       spent h e q =
           let end : Good (running b (eventsOf limit b)) = run-good b (eventsOf limit b) good in
           let loud : isQuiet (running b (eventsOf limit b)) ≡ false = ap isQuiet (sym (it .runs)) ∙ q in
@@ -203,7 +203,7 @@ module _ (setup : Setup) (ok : setupOk setup ≡ true) (calls : List Call) (limi
             | inr c ↦ too-many (c .0) (omega arith) ((next-accepted (running b (eventsOf limit b)) end (c .0) (c .1)) .0) (next-acts (running b (eventsOf limit b)) end (c .0) (c .1))
           ]
 
--- The number is that of as many postings as a board holds, at the ceiling of seven sites.
+-- The number of `enough` is that of as many postings as a board holds, at the ceiling of seven sites.
 pub drain-limit : capacity * ceilingOf 7 ≡ 27136
 drain-limit = refl
 

@@ -13,6 +13,7 @@ use Rattle.steps.specs.declared.Call.the-variants.{Offer}
 use Rattle.machine.specs.declared.Answer.the-variants.{Done, Offered, Refused}
 use Rattle.machine.specs.Runs.{running}
 use Rattle.drain.specs.declared.Ending.the-variants.{Quiet, Spent}
+use Rattle.drain.specs.Drain.{drainLimit}
 use Rattle.cases.specs.Trials.{Entry, View, start, conflicts, called, calls, drain, look, prints, answer, answered, said, figure, ended, left, text, Case, _gives_}
 use Rattle.cases.specs.Boards.{began, arrives, trading, m9, m10}
 use Rattle.cases.specs.WholeCase.{wholeFile, wholeText}
@@ -89,7 +90,7 @@ marked =
       quiet = false;
     })
     -- and once the board is quiet every record is 0 1.
-    ∷ look began m10 27136
+    ∷ look began m10 drainLimit
     gives left
     (record {
       down = [];

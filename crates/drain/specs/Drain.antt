@@ -77,3 +77,7 @@ draining (suc left) limit count b =
 unfoldable pub drained : Board → ℕ → Drained
 drained b limit =
     cond (isSound b) (draining limit limit 0 b) (record { board = b; limit = limit; count = 0; ending = Refused 6 })
+
+-- a drain with this limit ends quiet on every board that a run reaches
+abbrev pub drainLimit : ℕ
+drainLimit = 27136

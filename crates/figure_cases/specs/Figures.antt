@@ -10,7 +10,7 @@ use Rattle.machine.specs.declared.Board.{Board}
 use Rattle.steps.specs.declared.Cut.the-variants.{Whole}
 use Rattle.steps.specs.declared.Call.the-variants.{Offer, Crash}
 use Rattle.machine.specs.Runs.{running}
-use Rattle.drain.specs.Drain.{drained}
+use Rattle.drain.specs.Drain.{drained, drainLimit}
 use Rattle.cases.specs.Trials.{Trial, part, partOfAll, Result, numbers, Case, _gives_}
 use Rattle.cases.specs.Boards.{began, arrives}
 
@@ -25,11 +25,11 @@ parted =
 
 -- two CALLs of account 2, and a drain to quiet
 unfoldable pub afterCalls : Board
-afterCalls = drained (running parted (Offer 0 call 2 2 0 Whole ∷ Offer 1 call 2 2 0 Whole ∷ [])) 27136 .board
+afterCalls = drained (running parted (Offer 0 call 2 2 0 Whole ∷ Offer 1 call 2 2 0 Whole ∷ [])) drainLimit .board
 
 -- a NET of account 1 and one of account 2, and a drain to quiet
 unfoldable pub afterNets : Board
-afterNets = drained (running afterCalls (Offer 0 net 1 1 0 Whole ∷ Offer 1 net 2 2 0 Whole ∷ [])) 27136 .board
+afterNets = drained (running afterCalls (Offer 0 net 1 1 0 Whole ∷ Offer 1 net 2 2 0 Whole ∷ [])) drainLimit .board
 
 -- ---- what is looked at
 

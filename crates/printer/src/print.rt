@@ -361,9 +361,7 @@ fn longest_lines(events: usize) -> usize
     if events <= SHORT_EVENTS {
         return lines;
     }
-    let more = events - SHORT_EVENTS;
-    let longest = lines + more;
-    longest
+    lines + (events - SHORT_EVENTS)
 }
 
 // A run of so many events and sites surely fits into so many bytes.

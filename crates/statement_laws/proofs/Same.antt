@@ -27,7 +27,7 @@ use Rattle.machine.specs.Runs.{accepted, running, isQuiet}
 use Rattle.machine.specs.Figures.{figuresOf, figuresOfAll}
 use Rattle.machine.specs.History.{acceptedCalls, broughtDown}
 use Rattle.drain.specs.declared.Ending.{Ending}
-use Rattle.drain.specs.Drain.{endingOf, drained}
+use Rattle.drain.specs.Drain.{endingOf, drained, drainLimit}
 use Rattle.whole_board.proofs.Showing.{length-all}
 use Rattle.invariants.proofs.History as history
 use Rattle.invariants.proofs.Quiet.{quiet-left}
@@ -40,7 +40,7 @@ use Rattle.agreement.proofs.Proved.{run-append, books-agree}
 use Rattle.agreement.proofs.Drained.{drain-says-reached}
 use Rattle.decoder.specs.RunFile.{setupOf, wellFormed, callsOf}
 use Rattle.statements.specs.Table.{sameWords, figureAt, accountAt, siteParts, sameNumber, sameAccount, sameSite, agree, agreeWith, allAgree, statementText}
-use Rattle.statements.specs.Statement.{statementOf, drainLimit, statedRun, statedFrom, stated}
+use Rattle.statements.specs.Statement.{statementOf, statedRun, statedFrom, stated}
 
 -- ---- figures that are the same
 
@@ -108,7 +108,7 @@ accepted-zero (Offered m) h = refl
 accepted-zero (Refused k) h = absurd (never h refl)
 
 -- a drain whose limit is enough leaves a quiet board
-ended-quiet : (b : Board) (limit : ℕ) → DrainSays b limit → 27136 ≤ limit → isQuiet (drained b limit .board) ≡ true
+ended-quiet : (b : Board) (limit : ℕ) → DrainSays b limit → drainLimit ≤ limit → isQuiet (drained b limit .board) ≡ true
 ended-quiet b limit says h = elim (says .ends) [
   | inl q ↦ q .1
   | inr s ↦ absurd (omega (arith, ap (λ (x : Ending). getD (endingOf x .1) 0 0) (sym (says .enough h) ∙ s .0)))

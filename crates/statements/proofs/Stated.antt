@@ -23,7 +23,7 @@ use Rattle.machine.specs.Runs.{taking, running}
 use Rattle.whole_board.proofs.Showing.{length-all}
 use Rattle.machine.specs.Figures.{figuresOfAll, shown, showingAll}
 use Rattle.drain.specs.declared.Drained.{Drained}
-use Rattle.drain.specs.Drain.{nextEvent, draining, drained}
+use Rattle.drain.specs.Drain.{nextEvent, draining, drained, drainLimit}
 use Rattle.drain.proofs.Loop.{next-cases, draining-none, draining-event}
 use Rattle.decoder.specs.RunFile.{callsOf}
 use Rattle.printer.specs.Output.{refusedLine}
@@ -32,7 +32,7 @@ use Rattle.runfile.specs.declared.begin.Begun.{Begun}
 use Rattle.runfile.specs.Begins.{begunBy}
 use Rattle.runfile.specs.Program.{StaysSound}
 use Rattle.runfile.proofs.Programs.{begun-refused, begun-taken}
-use Rattle.statements.specs.Statement.{statementOf, drainLimit, statedRun, statedFrom, stated}
+use Rattle.statements.specs.Statement.{statementOf, statedRun, statedFrom, stated}
 
 -- ---- a drain
 

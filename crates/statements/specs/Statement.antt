@@ -10,7 +10,7 @@ use Rattle.machine.specs.declared.Outcome.{Outcome}
 use Rattle.machine.specs.Calls.{refusalOf, starting}
 use Rattle.machine.specs.Runs.{running}
 use Rattle.machine.specs.Figures.{figuresOfAll}
-use Rattle.drain.specs.Drain.{drained}
+use Rattle.drain.specs.Drain.{drained, drainLimit}
 use Rattle.decoder.specs.RunFile.{setupOf, wellFormed, callsOf}
 use Rattle.printer.specs.Output.{refusedLine}
 use Rattle.statements.specs.Table.{statementText}
@@ -18,10 +18,6 @@ use Rattle.statements.specs.Table.{statementText}
 -- the statement of a board: its sites, their figures, and those that are down
 unfoldable pub statementOf : Board → List ℕ
 statementOf b = let n = b .setup .n in statementText (figuresOfAll b n) n (b .down)
-
--- a drain with this limit ends quiet on every board that a run reaches
-abbrev pub drainLimit : ℕ
-drainLimit = 27136
 
 -- calls from a board, then a drain, then the statement of the board that it hands back
 unfoldable pub statedRun : Board → List Call → List ℕ

@@ -11,14 +11,14 @@ mul-lines c = search needs
 returns : tie.Need-returns
 returns c = omega arith
 
-sub-more : tie.Need-sub-more
-sub-more c = search needs
+sub-result : tie.Need-sub-result
+sub-result c = search needs
 
-add-longest : tie.Need-add-longest
-add-longest c = search needs
+add-result : tie.Need-add-result
+add-result c = search needs
 
 returns-2 : tie.Need-returns-2
 returns-2 c = omega arith
 
 pub longest-lines-spec : {M : Type 1} → statement M
-longest-lines-spec = tie.close (tie.spec mul-lines returns sub-more add-longest returns-2)
+longest-lines-spec = tie.close (tie.spec mul-lines returns sub-result add-result returns-2)
