@@ -27,9 +27,10 @@ extern "C" {
      kind 0, TRADE   a and b differ, amount 1 to 1,000,000,000 cents
      kind 1, RATE    b is a, amount 0 to 10,000, a rate per 10,000
      kind 2, CALL    b is a, amount 0
-     kind 3, NET     b is a, amount 0
+     kind 3, NET     b is a, amount 0; or a and b are both BOARD_EVERY_ACCOUNT, amount 0, and every account is netted
 
-   This is the field rule. A table has at most BOARD_POSTINGS postings; the number of a posting is its place in the table,
+   This is the field rule. A NET of every account touches all accounts, so it shares one with every posting; any other
+   posting touches a and b. A table has at most BOARD_POSTINGS postings; the number of a posting is its place in the table,
    from 0 on.
 
    A MATRIX says for which kinds two postings conflict when they share an account: yes for kinds i and j is bit 4i + j,
@@ -71,6 +72,7 @@ extern "C" {
 #define BOARD_SITES 7
 #define BOARD_POSTINGS 256
 #define BOARD_WORDS 4
+#define BOARD_EVERY_ACCOUNT 255
 #define BOARD_FIGURES 64
 #define BOARD_HEADER 9
 #define BOARD_EVENT 10
@@ -161,7 +163,8 @@ bool board_symmetric(uint16_t matrix);
 bool board_has_fixed_pairs(uint16_t matrix);
 
 /* Whether two postings conflict: their numbers m and x differ, they share an account (a or b of the one, c or d of the
-   other, of 0 to 15), and the matrix says yes for their kinds i and j. A kind above 3 conflicts with nothing. */
+   other, of 0 to 15; or the one nets every account and the other touches any), and the matrix says yes for their kinds i
+   and j. A kind above 3 conflicts with nothing. */
 bool board_conflicting(uint16_t matrix, size_t m, uint8_t i, uint8_t a, uint8_t b, size_t x, uint8_t j, uint8_t c,
                        uint8_t d);
 

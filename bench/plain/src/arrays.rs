@@ -8,6 +8,11 @@ use crate::set::{Set, POSTINGS, SITES};
 /// Accounts, kinds and forms of messages.
 pub const ACCOUNTS: usize = 16;
 pub const KINDS: usize = 4;
+pub const NET: u8 = 3;
+
+/// What stands in place of both accounts of a NET where every account is meant.
+pub const EVERY_ACCOUNT: u8 = 255;
+
 pub const FORMS: usize = 4;
 pub const FIRST: usize = 0;
 pub const SECOND: usize = 1;
@@ -47,8 +52,9 @@ pub const GOOD: usize = HEARD + SITES * POSTINGS;
 pub const RECORD: usize = GOOD + SITES * POSTINGS;
 const BYTES: usize = RECORD + SITES * POSTINGS;
 
-/// Rows of the index: the postings of each account and kind; then what the record of each site has.
-pub const RECORDED: usize = ACCOUNTS * KINDS;
+/// Rows of the index: the postings of each account and kind, and of each kind; then what the record of each site has.
+pub const EVERY: usize = ACCOUNTS * KINDS;
+pub const RECORDED: usize = EVERY + KINDS;
 const ROWS: usize = RECORDED + SITES;
 
 /// Pairs of a posting and a sender; the cells of the masks are these for each form.

@@ -1,7 +1,8 @@
 // Holds: the books of a site and of all sites, posted from zeros into a lent slice.
-// Rests on: arrays.
+// Rests on: arrays, index.
 
 use crate::arrays::{Board, A, ACCOUNTS, B, KIND};
+use crate::index::nets_all;
 
 /// The figures of an account, and of all accounts.
 const OF_ACCOUNT: usize = 4;
@@ -15,6 +16,12 @@ const SETTLED: usize = 3;
 
 /// A rate is so many parts of this.
 const WHOLE: u64 = 10_000;
+
+/// Settled rises by the position, which becomes 0.
+fn net(figures: &mut [i64]) {
+    figures[SETTLED] += figures[POSITION];
+    figures[POSITION] = 0;
+}
 
 /// The size of the position times the rate, rounded up.
 fn called(position: i64, rate: i64) -> i64 {
@@ -35,20 +42,21 @@ impl Board {
     }
 
     fn post(&self, m: usize, figures: &mut [i64]) {
-        let a = OF_ACCOUNT * usize::from(self.bytes[A + m]);
-        let b = OF_ACCOUNT * usize::from(self.bytes[B + m]);
+        let [kind, a, b] = [KIND, A, B].map(|column| self.bytes[column + m]);
+        if nets_all(kind, a, b) {
+            figures.chunks_exact_mut(OF_ACCOUNT).for_each(net);
+            return;
+        }
+        let [a, b] = [a, b].map(|account| OF_ACCOUNT * usize::from(account));
         let amount = i64::from(self.amounts[m]);
-        match self.bytes[KIND + m] {
+        match kind {
             0 => {
                 figures[a + POSITION] += amount;
                 figures[b + POSITION] -= amount;
             }
             1 => figures[a + RATE] = amount,
             2 => figures[a + CALLED] += called(figures[a + POSITION], figures[a + RATE]),
-            _ => {
-                figures[a + SETTLED] += figures[a + POSITION];
-                figures[a + POSITION] = 0;
-            }
+            _ => net(&mut figures[a..]),
         }
     }
 }

@@ -1,23 +1,42 @@
-// Holds: the index beside a board: C(m) from the postings by account and kind, and delivery by what each record has.
+// Holds: the index beside a board: C(m) from the postings by account and kind, and by kind, and delivery by what each record has.
 // Rests on: arrays, set.
 
-use crate::arrays::{Board, A, B, DELIVERED, KIND, KINDS, RECORD, RECORDED};
+use crate::arrays::{
+    Board, A, ACCOUNTS, B, DELIVERED, EVERY, EVERY_ACCOUNT, KIND, KINDS, NET, RECORD, RECORDED,
+};
 use crate::set::{Set, POSTINGS};
 
+/// Whether a posting nets every account.
+pub fn nets_all(kind: u8, a: u8, b: u8) -> bool {
+    kind == NET && a == EVERY_ACCOUNT && b == EVERY_ACCOUNT
+}
+
 impl Board {
-    /// Puts a posting into the rows of its accounts.
+    /// Puts a posting into the rows of its accounts, or of all, and into that of its kind.
     pub fn enter(&mut self, m: usize, kind: u8, a: u8, b: u8) {
+        let kind_at = usize::from(kind);
+        self.index[EVERY + kind_at].insert(m);
+        if nets_all(kind, a, b) {
+            for account in 0..ACCOUNTS {
+                self.index[account * KINDS + kind_at].insert(m);
+            }
+            return;
+        }
         for account in [a, b] {
-            let row = usize::from(account) * KINDS + usize::from(kind);
-            self.index[row].insert(m);
+            self.index[usize::from(account) * KINDS + kind_at].insert(m);
         }
     }
 
     /// C(m): m with all that conflict with it.
     pub fn family(&self, m: usize) -> Set {
-        let kinds = self.setup.matrix >> (4 * self.bytes[KIND + m]);
-        let a = usize::from(self.bytes[A + m]) * KINDS;
-        let b = usize::from(self.bytes[B + m]) * KINDS;
+        let [kind, a, b] = [KIND, A, B].map(|column| self.bytes[column + m]);
+        let kinds = self.setup.matrix >> (4 * kind);
+        let rows = |account: u8| usize::from(account) * KINDS;
+        let [a, b] = if nets_all(kind, a, b) {
+            [EVERY, EVERY]
+        } else {
+            [rows(a), rows(b)]
+        };
         let mut family = Set::only(m);
         for kind in 0..KINDS {
             if kinds >> kind & 1 == 1 {

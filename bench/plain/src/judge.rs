@@ -1,8 +1,9 @@
 // Holds: the tests of a start and of an event, each with its refusal.
-// Rests on: arrays, call, mask, set.
+// Rests on: arrays, index, call, mask, set.
 
 use crate::arrays::{cell, Board, ACCOUNTS, DOWN, FORMS};
 use crate::call::{Answer, Cut, Fields, Refusal, Setup};
+use crate::index::nets_all;
 use crate::mask;
 use crate::set::{POSTINGS, SITES};
 
@@ -36,7 +37,7 @@ pub fn judge_start(setup: &Setup) -> Answer {
 /// Whether fields fit their row of the table of kinds.
 pub fn judge_fields(fields: &Fields) -> Answer {
     let Fields { kind, a, b, amount } = *fields;
-    let known = usize::from(a.max(b)) < ACCOUNTS;
+    let known = usize::from(a.max(b)) < ACCOUNTS || nets_all(kind, a, b);
     let in_row = match kind {
         0 => a != b && (1..=MAX_AMOUNT).contains(&amount),
         1 => a == b && amount <= MAX_RATE,

@@ -31,16 +31,20 @@ unionOf m = 5 * sites + 1 + m
 abbrev pub entryOf : ℕ → ℕ
 entryOf m = 5 * sites + 1 + capacity + m
 
--- ---- slots behind them, which no board shows: the postings offered by account and kind, and what the record of site p has
+-- ---- slots behind them, which no board shows: the postings offered by row of the index and kind, and what the record of site p has
 
 abbrev pub shownSlots : ℕ
 shownSlots = 5 * sites + 1 + 2 * capacity
 
+-- the rows of the index: one for each account, and one for all
+abbrev pub indexRows : ℕ
+indexRows = accounts + 1
+
 abbrev pub kindSlots : ℕ
-kindSlots = accounts * kinds
+kindSlots = indexRows * kinds
 
 abbrev pub kindOf : ℕ → ℕ → ℕ
-kindOf account kind = shownSlots + (account * kinds + kind)
+kindOf row kind = shownSlots + (row * kinds + kind)
 
 abbrev pub haveOf : ℕ → ℕ
 haveOf p = shownSlots + kindSlots + p

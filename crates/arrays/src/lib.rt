@@ -35,10 +35,13 @@ pub const UNION: usize = POOL + 1;
 
 pub const ENTRY: usize = UNION + POSTINGS;
 
-// Behind them what no board shows: the postings offered by account and kind, from which C(m) is read; and what each record has.
+// Behind them what no board shows: the postings offered by row and kind, from which C(m) is read; and what each record has. The index has
+// a row for each account, and one for all.
 pub const BY_KIND: usize = ENTRY + POSTINGS;
 
-pub const HAVE: usize = BY_KIND + ACCOUNTS as usize * KINDS as usize;
+pub const INDEX_ROWS: u8 = ACCOUNTS + 1;
+
+pub const HAVE: usize = BY_KIND + INDEX_ROWS as usize * KINDS as usize;
 
 pub const SLOTS: usize = HAVE + SITES;
 

@@ -12,7 +12,7 @@ use borrow.Author.Tests.{eq-eqb, ne-eqb}
 use Rattle.sets.proofs.Truth.{test}
 use Rattle.posting.specs.declared.Posting.{Posting}
 use Rattle.posting.specs.Kinds.{trade, accounts}
-use Rattle.posting.proofs.KindLaws.{Fields, row-trade}
+use Rattle.posting.proofs.KindLaws.{Fields, row-trade, named-accounts, trade-names}
 use Rattle.posting.specs.Conflicts.{touches}
 use Rattle.posting.proofs.ConflictLaws.{touches-first, touches-second}
 use Rattle.books.specs.declared.Figures.{Figures}
@@ -89,6 +89,9 @@ module _ (p : Posting) (f : Fields p) (is : p .kind ≡ trade) where
   abbrev amount : ℤ
   amount = pos (p .amount)
 
+  named : (p .a < accounts) × (p .b < accounts)
+  named = named-accounts (p .kind) (p .a) (p .b) (f .accounts-ok) (trade-names p is)
+
   gain : ℕ → ℤ
   gain k = only (p .a) amount k +ℤ only (p .b) (negℤ amount) k
 
@@ -105,16 +108,16 @@ module _ (p : Posting) (f : Fields p) (is : p .kind ≡ trade) where
   effect-gain k s = elim (ℕ-discrete k (p .a)) [
     | yes e ↦
         let nb : k ≡ p .b → ⊥ = λ b. apart (sym e ∙ b) in
-        traded k s (ap (touches p) e ∙ touches-first p (f .first))
+        traded k s (ap (touches p) e ∙ touches-first p (named .0))
         ∙ rw (eq-eqb k (p .a) e, ne-eqb k (p .b) nb)
         (sum-swap (s .position) amount (s .settled) ∙ ap (λ (z : ℤ). worth s +ℤ z) (sym (+ℤ-idr amount)))
     | no na ↦ elim (ℕ-discrete k (p .b)) [
       | yes e ↦
-          traded k s (ap (touches p) e ∙ touches-second p (f .second))
+          traded k s (ap (touches p) e ∙ touches-second p (named .1))
           ∙ rw (ne-eqb k (p .a) na, eq-eqb k (p .b) e)
           (sum-swap (s .position) (negℤ amount) (s .settled) ∙ ap (λ (z : ℤ). worth s +ℤ z) (sym (+ℤ-idl (negℤ amount))))
       | no nb ↦
-          ap worth (effect-untouched p k s (touches-neither p k na nb))
+          ap worth (effect-untouched p k s (touches-neither p k (trade-names p is) na nb))
           ∙ rw (ne-eqb k (p .a) na, ne-eqb k (p .b) nb) (sym (+ℤ-idr (worth s)))
     ]
   ]
@@ -123,7 +126,7 @@ module _ (p : Posting) (f : Fields p) (is : p .kind ≡ trade) where
   unfolding gain
   gains-cancel =
       sum-both (only (p .a) amount) (only (p .b) (negℤ amount)) accounts
-      ∙ ap₂ _+ℤ_ (sum-only (p .a) amount accounts (f .first)) (sum-only (p .b) (negℤ amount) accounts (f .second))
+      ∙ ap₂ _+ℤ_ (sum-only (p .a) amount accounts (named .0)) (sum-only (p .b) (negℤ amount) accounts (named .1))
       ∙ +ℤ-invr amount
 
 -- no posting within the field rule changes the total

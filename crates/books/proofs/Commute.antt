@@ -14,7 +14,7 @@ use Rattle.sets.proofs.Truth.{test, never, and-left, and-right, not-flips}
 use Rattle.sets.specs.Below.{allBelow}
 use Rattle.sets.proofs.BelowLaws.{all-at}
 use Rattle.posting.specs.declared.Posting.{Posting}
-use Rattle.posting.specs.Kinds.{trade, rate, kinds, fieldsOk, inRow, fixedPair, fixedPairs, allPairs}
+use Rattle.posting.specs.Kinds.{trade, rate, kinds, netOfAll, accountsOk, fieldsOk, inRow, fixedPair, fixedPairs, allPairs}
 use Rattle.posting.proofs.KindLaws.{pairs-at}
 use Rattle.posting.specs.Conflicts.{touches, shares}
 use Rattle.posting.proofs.ConflictLaws.{shares-at}
@@ -136,7 +136,7 @@ differs i j = not (eqb (sum (one-way i j)) (sum (other-way i j)))
 
 -- one test over all entries: on these figures the order of two kinds matters exactly where the table says yes
 entries-right : allPairs (λ i j. Bool·beq (fixedPair i j) (differs i j)) ≡ true
-unfolding allPairs allBelow fixedPair fixedPairs differs effect touches change sizeOfCall
+unfolding allPairs allBelow fixedPair fixedPairs differs effect touches netOfAll change sizeOfCall
 entries-right = refl
 
 as-said : (b : Bool) → Bool·beq true b ≡ true → b ≡ true
@@ -144,7 +144,7 @@ as-said true e = refl
 as-said false e = e
 
 samples-right : allBelow (λ kind. fieldsOk (first kind) && fieldsOk (second kind)) kinds ≡ true
-unfolding allBelow fieldsOk inRow
+unfolding allBelow fieldsOk accountsOk netOfAll inRow
 samples-right = refl
 
 -- two postings of kinds i and j within the field rule, an account that both touch, and figures of it for which their order matters

@@ -1,18 +1,19 @@
--- Laws of one effect: what is no kind does nothing, a posting changes the accounts that it touches, and no number of any other.
--- Rests on Effect. Assumes nothing.
-use mathlib.Core.Path.{_≡_}
+-- Laws of one effect: what is no kind does nothing, a posting changes the accounts that it touches, and no number of any other, and what nets
+-- every account nets each. Rests on Effect. Assumes nothing.
+use mathlib.Core.Path.{_≡_, _∙_}
 use mathlib.Core.Bool.{true, false}
 use mathlib.Core.Logic.{inl, inr}
-use Prim.Native.Nat.{ℕ, _≤_}
+use Prim.Native.Nat.{ℕ, _<_, _≤_}
 use native.Mathlib.Omega.{arith}
 use borrow.Author.Tests.{ne-eqb}
 use Rattle.sets.proofs.Truth.{not-so}
 use Rattle.posting.specs.declared.Posting.{Posting}
-use Rattle.posting.specs.Kinds.{trade, rate, call, net, kinds}
+use Rattle.posting.specs.Kinds.{trade, rate, call, net, kinds, accounts, netsAll}
+use Rattle.posting.proofs.KindLaws.{nets-all-net}
 use Rattle.posting.specs.Conflicts.{touches}
-use Rattle.posting.proofs.ConflictLaws.{touches-cases}
+use Rattle.posting.proofs.ConflictLaws.{touches-cases, touches-all}
 use Rattle.books.specs.declared.Figures.{Figures}
-use Rattle.books.specs.Effect.{change, effect}
+use Rattle.books.specs.Effect.{onNet, change, effect}
 
 pub no-kind : (kind : ℕ) → kinds ≤ kind → (p : Posting) (k : ℕ) (s : Figures) → change kind p k s ≡ s
 unfolding change
@@ -32,5 +33,10 @@ pub effect-untouched : (p : Posting) (k : ℕ) (s : Figures) → touches p k ≡
 unfolding effect
 effect-untouched p k s t = rw t
 
-pub touches-neither : (p : Posting) (k : ℕ) → (k ≡ p .a → ⊥) → (k ≡ p .b → ⊥) → touches p k ≡ false
-touches-neither p k a b = not-so (touches p k) (λ t. elim (touches-cases p k t) [ inl e ↦ a e | inr e ↦ b e ])
+-- what nets every account nets each
+pub effect-net-all : (p : Posting) (k : ℕ) (s : Figures) → netsAll p ≡ true → k < accounts → effect p k s ≡ onNet s
+unfolding change
+effect-net-all p k s e h = effect-touched p k s (touches-all p k e h) ∙ rw (nets-all-net p e)
+
+pub touches-neither : (p : Posting) (k : ℕ) → netsAll p ≡ false → (k ≡ p .a → ⊥) → (k ≡ p .b → ⊥) → touches p k ≡ false
+touches-neither p k named a b = not-so (touches p k) (λ t. elim (touches-cases p k named t) [ inl e ↦ a e | inr e ↦ b e ])

@@ -1,38 +1,81 @@
--- Posting on a sheet: what the code does with a line of a record, and what a record that may be posted says of each line.
+-- Posting on a sheet: every account netted, what the code does with a line of a record, and what a record that may be posted says of each line.
 -- Rests on Lines. Assumes nothing.
 use mathlib.Core.Path.{_≡_, refl, sym, ap, _∙_, subst, subst⁻¹, fun-ext}
 use mathlib.Core.Bool.{Bool, true, false, cond}
 use mathlib.Core.List.{List}
 use Prim.Native.Nat.{ℕ, zero, suc, _+_, _<_, _≤_}
-use native.Mathlib.Decide.{ℕ-discrete}
+use native.Mathlib.Decide.{ℕ-discrete, decLt}
 use native.Mathlib.Omega.{arith}
-use lib.Dec.{eqb, lit≤}
-use lib.ListN.{length, getD, set, take, replicate}
+use lib.Dec.{eqb, ltb, lit≤}
+use lib.ListN.{length, getD, set, take, replicate, length-set}
 use lib.Seq.{length-take-le, getD-take}
-use borrow.Author.Tests.{eq-eqb, ne-eqb}
+use borrow.Author.Tests.{eq-eqb, ne-eqb, lt-ltb, le-ltb}
 use Rattle.sets.specs.Sets.{capacity}
 use Rattle.posting.specs.declared.Posting.{Posting}
 use Rattle.posting.specs.declared.Table.{Table}
 use Rattle.posting.specs.declared.Record.{Record}
-use Rattle.posting.specs.Kinds.{accounts}
-use Rattle.posting.proofs.KindLaws.{Fields, fields}
+use Rattle.posting.specs.Kinds.{accounts, netsAll}
+use Rattle.posting.proofs.KindLaws.{Fields, fields, named-accounts}
 use Rattle.posting.specs.Conflicts.{noPosting, row}
 use Rattle.posting.proofs.ConflictLaws.{offered-below, touches-first, touches-second}
 use Rattle.books.specs.declared.Figures.{Figures}
 use Rattle.books.specs.declared.Sheet.{Sheet}
-use Rattle.books.specs.Effect.{change, effect}
+use Rattle.books.specs.Effect.{onNet, change, effect}
 use Rattle.books.specs.Books.{Books, blank, post, books, zeros, tabulate, figuresOn, sheetOf}
-use Rattle.books.specs.Bounds.{After, Room, Opening, Postable}
-use Rattle.books.proofs.Effects.{effect-touched, effect-untouched, touches-neither}
+use Rattle.books.specs.Bounds.{After, Room, Roomy, Opening, Postable}
+use Rattle.books.proofs.Effects.{effect-touched, effect-untouched, effect-net-all, touches-neither}
 use Rattle.books.proofs.Bounds.{effect-after, later, room}
 use Rattle.books.proofs.Lines.{books-after, next-line}
-use Rattle.books.proofs.Lists.{getD-tabulate, is-tabulate, getD-changed, changed-both}
+use Rattle.books.proofs.Lists.{length-tabulate, getD-tabulate, is-tabulate, getD-changed, changed-both}
+
+-- ---- sheets
+
+-- a list with the figures of each account makes their sheet
+is-sheet : (s : Books) (l : List Figures) → length l ≡ accounts → ((k : ℕ) → k < accounts → getD l k zeros ≡ s k) → record { accounts = l } ≡ sheetOf s
+is-sheet s l e h = ap (λ (x : List Figures). record { accounts = x }) (is-tabulate accounts s zeros l e h)
+
+same-sheet : (s t : Books) → ((k : ℕ) → k < accounts → s k ≡ t k) → sheetOf s ≡ sheetOf t
+same-sheet s t h = is-sheet t (tabulate accounts s) (length-tabulate accounts s) (λ k l. getD-tabulate accounts s zeros k l ∙ h k l)
+
+-- ---- every account netted, account by account
+
+-- the first i accounts are netted
+abbrev pub netted : ℕ → Books → Books
+netted i s k = cond (ltb k i) (onNet (s k)) (s k)
+
+pub netted-none : (s : Books) → sheetOf s ≡ sheetOf (netted 0 s)
+netted-none s = same-sheet s (netted 0 s) (λ k h. rw (le-ltb k 0 (omega arith)))
+
+-- account i, whose turn it is, is as it was
+pub netted-at : (i : ℕ) (s : Books) → i < accounts → figuresOn (sheetOf (netted i s)) i ≡ s i
+netted-at i s h = getD-tabulate accounts (netted i s) zeros i h ∙ rw (le-ltb i i (omega arith))
+
+-- v is stored there
+pub netted-next : (i : ℕ) (s : Books) → i < accounts → (sheet : Sheet) (v : Figures) → sheet ≡ sheetOf (netted i s) → v ≡ onNet (s i)
+    → record { accounts = set (sheet .accounts) i v } ≡ sheetOf (netted (i + 1) s)
+netted-next i s h sheet v is ev = rw (is, ev) (is-sheet (netted (i + 1) s) (set (tabulate accounts (netted i s)) i (onNet (s i))) size at)
+  where
+    size : length (set (tabulate accounts (netted i s)) i (onNet (s i))) ≡ accounts
+    size = length-set (tabulate accounts (netted i s)) i (onNet (s i)) ∙ length-tabulate accounts (netted i s)
+
+    one : (k : ℕ) → Dec (k ≡ i) → cond (eqb k i) (onNet (s i)) (netted i s k) ≡ netted (i + 1) s k
+    one k (yes e) = rw (eq-eqb k i e, lt-ltb k (i + 1) (omega (arith, e))) (ap (λ (j : ℕ). onNet (s j)) (sym e))
+    one k (no d) = rw (ne-eqb k i d) (elim (decLt k i) [
+      | yes b ↦ rw (lt-ltb k i b, lt-ltb k (i + 1) (omega arith))
+      | no b ↦ rw (le-ltb k i (omega arith), le-ltb k (i + 1) (omega arith))
+    ])
+
+    at : (k : ℕ) → k < accounts → getD (set (tabulate accounts (netted i s)) i (onNet (s i))) k zeros ≡ netted (i + 1) s k
+    at k l = getD-changed accounts (netted i s) zeros i (onNet (s i)) k l ∙ one k (ℕ-discrete k i)
+
+pub netted-all : (s : Books) → sheetOf (netted accounts s) ≡ sheetOf (λ k. onNet (s k))
+netted-all s = same-sheet (netted accounts s) (λ k. onNet (s k)) (λ k h. rw (lt-ltb k accounts h))
 
 -- ---- a line on the sheet: account a, then account b if that is another one
 
-module _ (s : Books) (p : Posting) (ok : Fields p) where
+module _ (s : Books) (p : Posting) (both : (p .a < accounts) × (p .b < accounts)) where
   first-is : change (p .kind) p (p .a) (s (p .a)) ≡ effect p (p .a) (s (p .a))
-  first-is = sym (effect-touched p (p .a) (s (p .a)) (touches-first p (ok .first)))
+  first-is = sym (effect-touched p (p .a) (s (p .a)) (touches-first p (both .0)))
 
   second-is : (u : Figures) → u ≡ cond (eqb (p .b) (p .a)) (effect p (p .a) (s (p .a))) (s (p .b))
       → cond (eqb (p .a) (p .b)) u (change (p .kind) p (p .b) u) ≡ effect p (p .b) (s (p .b))
@@ -40,50 +83,56 @@ module _ (s : Books) (p : Posting) (ok : Fields p) where
     | yes e ↦ rw (eq-eqb (p .a) (p .b) e) (h ∙ rw (eq-eqb (p .b) (p .a) (sym e)) (ap (λ k. effect p k (s k)) e))
     | no ne ↦
         let v : u ≡ s (p .b) = h ∙ rw (ne-eqb (p .b) (p .a) (λ e. ne (sym e))) in
-        rw (ne-eqb (p .a) (p .b) ne, v) (sym (effect-touched p (p .b) (s (p .b)) (touches-second p (ok .second))))
+        rw (ne-eqb (p .a) (p .b) ne, v) (sym (effect-touched p (p .b) (s (p .b)) (touches-second p (both .1))))
   ]
 
--- how the code begins line n: l is the sheet's accounts, those of the books s; p the posting; a the place of its account a
+-- how the code begins line n, whose posting names its accounts: l is the sheet's accounts, those of the books s; p the posting; a the place of
+-- its account a
 pub record Line (n : ℕ) (s : Books) (p : Posting) (l : List Figures) (a : ℕ) : Type 0 where
   pub early : n < capacity
   pub bounded : (k : ℕ) → k < accounts → After n (s k)
   pub ok : Fields p
+  pub named : netsAll p ≡ false
   pub from : l ≡ tabulate accounts s
   pub first : a ≡ p .a
 
 module _ {n : ℕ} {s : Books} {p : Posting} {l : List Figures} {a : ℕ} (c : Line n s p l a) where
+  -- both are accounts
+  pub line-accounts : (p .a < accounts) × (p .b < accounts)
+  line-accounts = named-accounts (p .kind) (p .a) (p .b) (c .ok .accounts-ok) (c .named)
+
   at-a : getD l a zeros ≡ s (p .a)
-  at-a = rw (c .from, c .first) (getD-tabulate accounts s zeros (p .a) (c .ok .first))
+  at-a = rw (c .from, c .first) (getD-tabulate accounts s zeros (p .a) (line-accounts .0))
 
   pub room-a : Room (getD l a zeros)
-  room-a = rw at-a (room capacity n (s (p .a)) (lit≤ tt) (omega arith) (c .bounded (p .a) (c .ok .first)))
+  room-a = rw at-a (room capacity n (s (p .a)) (lit≤ tt) (omega arith) (c .bounded (p .a) (line-accounts .0)))
 
   -- t is stored at a; b is the place of account b
   module _ (t : Figures) (b : ℕ) (et : t ≡ change (p .kind) p (p .a) (getD l a zeros)) (eb : b ≡ p .b) where
     stored : t ≡ effect p (p .a) (s (p .a))
-    stored = et ∙ rw at-a (first-is s p (c .ok))
+    stored = et ∙ rw at-a (first-is s p line-accounts)
 
     at-b : getD (set l a t) b zeros ≡ cond (eqb (p .b) (p .a)) (effect p (p .a) (s (p .a))) (s (p .b))
-    at-b = rw (stored, c .from, c .first, eb) (getD-changed accounts s zeros (p .a) (effect p (p .a) (s (p .a))) (p .b) (c .ok .second))
+    at-b = rw (stored, c .from, c .first, eb) (getD-changed accounts s zeros (p .a) (effect p (p .a) (s (p .a))) (p .b) (line-accounts .1))
 
     pub room-b : Room (getD (set l a t) b zeros)
     room-b = rw at-b (room capacity (suc n) _ (lit≤ tt) (c .early) (go (eqb (p .b) (p .a))))
       where
         go : (t : Bool) → After (suc n) (cond t (effect p (p .a) (s (p .a))) (s (p .b)))
-        go true = effect-after n (s (p .a)) (c .bounded (p .a) (c .ok .first)) p (p .a) (c .ok)
-        go false = later n (s (p .b)) (c .bounded (p .b) (c .ok .second))
+        go true = effect-after n (s (p .a)) (c .bounded (p .a) (line-accounts .0)) p (p .a) (c .ok)
+        go false = later n (s (p .b)) (c .bounded (p .b) (line-accounts .1))
 
     pub line : (v : Figures) → v ≡ cond (eqb (p .a) (p .b)) (getD (set l a t) b zeros) (change (p .kind) p (p .b) (getD (set l a t) b zeros))
         → set (set l a t) b v ≡ tabulate accounts (post p s)
     line v ev =
-        let w : v ≡ effect p (p .b) (s (p .b)) = ev ∙ second-is s p (c .ok) (getD (set l a t) b zeros) at-b in
+        let w : v ≡ effect p (p .b) (s (p .b)) = ev ∙ second-is s p line-accounts (getD (set l a t) b zeros) at-b in
         rw (w, stored, c .from, c .first, eb)
-        (changed-both accounts s (post p s) zeros (p .a) (p .b) (c .ok .second)
-        (λ k h na nb. sym (effect-untouched p k (s k) (touches-neither p k na nb))))
+        (changed-both accounts s (post p s) zeros (p .a) (p .b) (line-accounts .1)
+        (λ k h na nb. sym (effect-untouched p k (s k) (touches-neither p k (c .named) na nb))))
 
 -- a sheet is that of its figures
 pub sheet-is : (sheet : Sheet) → length (sheet .accounts) ≡ accounts → sheet ≡ sheetOf (figuresOn sheet)
-sheet-is sheet e = ap (λ (l : List Figures). record { accounts = l }) (is-tabulate accounts (figuresOn sheet) zeros (sheet .accounts) e (λ k h. refl))
+sheet-is sheet e = is-sheet (figuresOn sheet) (sheet .accounts) e (λ k h. refl)
 
 -- a sheet of zeros may be posted from
 pub blank-opening : Opening (figuresOn (sheetOf blank))
@@ -130,17 +179,37 @@ module _ (table : Table) (delivered : Record) (ok : Postable table delivered) wh
     early : i < capacity
     early = omega (arith, here, ok .within)
 
-    pub line-begins : (l : List Figures) (a : ℕ) → l ≡ tabulate accounts (books-to i) → a ≡ posting .a → Line i (books-to i) posting l a
-    line-begins l a el ea = record {
+    bounded : (k : ℕ) → k < accounts → After i (books-to i k)
+    bounded = lines-after s opens i (omega (arith, here)) (omega (arith, early, long))
+
+    pub line-begins : (l : List Figures) (a : ℕ) → netsAll posting ≡ false → l ≡ tabulate accounts (books-to i) → a ≡ posting .a
+        → Line i (books-to i) posting l a
+    line-begins l a named el ea = record {
       early = early;
-      bounded = lines-after s opens i (omega (arith, here)) (omega (arith, early, long));
+      bounded = bounded;
       ok = subst⁻¹ (λ (p : Posting). Fields p) posting-is (line-fields i here);
+      named = named;
       from = el;
       first = ea;
     }
 
     pub line-posted : post posting (books-to i) ≡ books-to (i + 1)
     line-posted = ap (λ (p : Posting). post p (books-to i)) posting-is ∙ next-line s table (delivered .numbers) i (omega (arith, early, long))
+
+    -- the sheet before the line
+    module _ (sheet : Sheet) (is : sheet ≡ sheetOf (books-to i)) where
+      figures-to : (k : ℕ) → k < accounts → figuresOn sheet k ≡ books-to i k
+      figures-to k h = rw is (getD-tabulate accounts (books-to i) zeros k h)
+
+      pub line-roomy : Roomy (figuresOn sheet)
+      line-roomy k h = rw (figures-to k h) (room capacity i (books-to i k) (lit≤ tt) (omega (arith, early)) (bounded k h))
+
+      -- a line that nets every account
+      pub line-nets-all : netsAll posting ≡ true → sheetOf (λ k. onNet (figuresOn sheet k)) ≡ sheetOf (books-to (i + 1))
+      line-nets-all e =
+          same-sheet (λ k. onNet (figuresOn sheet k)) (post posting (books-to i))
+          (λ k h. ap onNet (figures-to k h) ∙ sym (effect-net-all posting k (books-to i k) e h))
+          ∙ ap sheetOf line-posted
 
 -- past the sixteen accounts zeros are read, too
 pub blank-figures : figuresOn (sheetOf blank) ≡ blank

@@ -31,6 +31,10 @@ pub record Room (s : Figures) : Type 0 where
   pub called : natAbs (s .called) ≤ 4_000_000_000_000_000_000
   pub settled : natAbs (s .settled) ≤ 4_000_000_000_000_000_000
 
+-- room on every account
+abbrev pub Roomy : Books → Type 0
+Roomy s = (k : ℕ) → k < accounts → Room (s k)
+
 -- figures to post from
 abbrev pub Opening : Books → Type 0
 Opening s = (k : ℕ) → k < accounts → After 0 (s k)

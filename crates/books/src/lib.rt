@@ -10,10 +10,11 @@ ghost use lib.ListN.{length, take, drop};
 ghost use Rattle.posting.specs.Records.{numbersOf};
 ghost use Rattle.books.specs.Effect.{sizeOfCall, onTrade, onRate, onCall, onNet, change};
 ghost use Rattle.books.specs.Books.{books, four, numbers, recordNo, numbersOfSites, figuresOn, sheetOf, blank};
-ghost use Rattle.books.specs.Bounds.{Room, Opening, Postable};
+ghost use Rattle.books.specs.Bounds.{Room, Roomy, Opening, Postable};
 use posting::Posting;
 use posting::Record;
 use posting::Table;
+use posting::net_of_all;
 use sets::wide;
 
 // How many accounts there are, and how many sites there can be.
@@ -148,7 +149,22 @@ fn change_b(p: Posting, s: Figures) -> Figures
     change(p, p.b, s)
 }
 
-// The sheet of a record: its postings posted line by line on the opening figures. A posting touches its accounts a and b.
+// Every account is netted.
+fn net_all(sheet: Sheet) -> Sheet
+    requires { ⌜ Roomy (figuresOn sheet) ⌝ }
+    ensures { λ r. ⌜ r ≡ sheetOf (λ k. onNet (figuresOn sheet k)) ⌝ }
+{
+    let mut t = sheet;
+    for a in 0..ACCOUNTS {
+        let s = t.accounts[a];
+        let u = net(s);
+        t.accounts[a] = u;
+    }
+    t
+}
+
+// The sheet of a record: its postings posted line by line on the opening figures. A posting touches its accounts a and b, or all of them.
+// Where it touches a and b the sheet is changed in place, so that it is not copied for each line.
 pub fn posted(table: Table, delivered: Record, opening: Sheet) -> Sheet
     requires { ⌜ Postable table delivered × Opening (figuresOn opening) ⌝ }
     ensures { λ r. ⌜ r ≡ sheetOf (books (figuresOn opening) table (numbersOf delivered)) ⌝ }
@@ -158,14 +174,18 @@ pub fn posted(table: Table, delivered: Record, opening: Sheet) -> Sheet
     for i in 0..count {
         let m = wide(delivered.numbers[i]);
         let p = table.rows[m];
-        let a = wide(p.a);
-        let s = sheet.accounts[a];
-        let t = change(p, p.a, s);
-        sheet.accounts[a] = t;
-        let b = wide(p.b);
-        let u = sheet.accounts[b];
-        let v = change_b(p, u);
-        sheet.accounts[b] = v;
+        if net_of_all(p.kind, p.a, p.b) {
+            sheet = net_all(sheet);
+        } else {
+            let a = wide(p.a);
+            let s = sheet.accounts[a];
+            let t = change(p, p.a, s);
+            sheet.accounts[a] = t;
+            let b = wide(p.b);
+            let u = sheet.accounts[b];
+            let v = change_b(p, u);
+            sheet.accounts[b] = v;
+        }
     }
     sheet
 }

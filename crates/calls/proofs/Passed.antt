@@ -1,4 +1,4 @@
--- What the tests of a call say where they pass: the acting site has a place; a posting accepted has a number, a kind and two accounts.
+-- What the tests of a call say where they pass: the acting site has a place; a posting accepted has a number, a kind and its accounts.
 -- Rests on steps and posting. Assumes nothing.
 use Prim.Native.Nat.{ℕ, _<_, _≤_}
 use mathlib.Core.Path.{_≡_}
@@ -10,7 +10,7 @@ use borrow.Author.Tests.{leb-false}
 use Rattle.sets.proofs.Truth.{test}
 use Rattle.sets.specs.Sets.{capacity}
 use Rattle.posting.specs.declared.Posting.{Posting}
-use Rattle.posting.specs.Kinds.{fieldsOk, kinds, accounts}
+use Rattle.posting.specs.Kinds.{kinds, accountsOk, fieldsOk}
 use Rattle.posting.proofs.KindLaws.{fields, row-kind}
 use Rattle.site.specs.Sites.{sites}
 use Rattle.steps.specs.CauseLists.{firstCause, siteCauses, messageCauses, offerCauses}
@@ -45,8 +45,8 @@ module _ (posting : Posting) (count why : ℕ) (e : why ≡ firstCause (offerCau
     | inr f ↦ leb-false capacity count f
   ]
 
-  -- the kind, and the two accounts
-  pub offer-fields : (posting .kind < kinds) × (posting .a < accounts) × (posting .b < accounts)
+  -- the kind, and the accounts
+  pub offer-fields : (posting .kind < kinds) × (accountsOk (posting .kind) (posting .a) (posting .b) ≡ true)
   offer-fields =
       let f = fields posting fields-ok in
-      (row-kind (posting .kind) (posting .a) (posting .b) (posting .amount) (f .within), f .first, f .second)
+      (row-kind (posting .kind) (posting .a) (posting .b) (posting .amount) (f .within), f .accounts-ok)

@@ -14,7 +14,7 @@ unfoldable pub marked-ways : Ways marked
 unfolding marked
 marked-ways =
     plain then plain then plain then plain then plain
-    then plain then plain then plain then plain then plain then plain
+    then plain then plain then plain then plain then plain then plain then plain
     then plain then plain then plain then plain
     then printing then calling began-known
     then emptying (runs began-known trading) then emptying (runs began-known trading)

@@ -5,7 +5,7 @@ use mathlib.Core.Bool.{true, false}
 use mathlib.Core.List.{List, [], _∷_}
 use lib.IntN.{pos, negℤ}
 use Rattle.posting.specs.declared.Posting.{Posting}
-use Rattle.posting.specs.Kinds.{trade, rate, call, net}
+use Rattle.posting.specs.Kinds.{trade, rate, call, net, everyAccount}
 use Rattle.site.specs.Sends.{FIRST}
 use Rattle.steps.specs.declared.Cut.the-variants.{Whole}
 use Rattle.steps.specs.declared.Call.{Call}
@@ -46,10 +46,11 @@ marked =
     -- M3: TRADE 1-2 and CALL 2 conflict; with CALL 3 not.
     ∷ conflicts 0x5B6C (aTrade 1 2) (aCall 2) gives said true
     ∷ conflicts 0x5B6C (aTrade 1 2) (aCall 3) gives said false
-    -- M4: two TRADEs 1-2 don't; two RATEs of 4 do; two NETs of 4 don't.
+    -- M4: two TRADEs 1-2 don't; two RATEs of 4 do; two NETs of 4 don't; NET 255 and CALL 7 do.
     ∷ conflicts 0x5B6C (aTrade 1 2) (aTrade 1 2) gives said false
     ∷ conflicts 0x5B6C (aRate 4) (aRate 4) gives said true
     ∷ conflicts 0x5B6C (aNet 4) (aNet 4) gives said false
+    ∷ conflicts 0x5B6C (aNet everyAccount) (aCall 7) gives said true
     -- M5: rate 250: positions 1000, 1001, −1001, 0 are called 25, 26, 26, 0.
     ∷ called (pos 1000) (pos 250) gives figure (pos 25)
     ∷ called (pos 1001) (pos 250) gives figure (pos 26)

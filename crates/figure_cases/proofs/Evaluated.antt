@@ -6,17 +6,20 @@ use Rattle.cases.proofs.Computes.{computes}
 use Rattle.cases.proofs.Known.{known}
 use Rattle.cases.proofs.Ways.{Ways, over, _then_, ends, ways-hold, KnownSound, runs, empties, filling, fillingAll, ways}
 use Rattle.cases.proofs.KnownBoards.{began-known, boards}
-use Rattle.figure_cases.specs.Figures.{parted, afterCalls, afterNets, figures}
+use Rattle.figure_cases.specs.Figures.{parted, afterCalls, afterNets, afterNetOfAll, nettedAgain, figures}
 
 -- Each board is bound once, so that it is evaluated once; one named at each case is evaluated at each.
 unfoldable pub ways-from : KnownSound parted → Ways figures
-unfolding figures afterCalls afterNets
+unfolding figures afterCalls afterNets afterNetOfAll nettedAgain
 ways-from p =
     let c = empties (runs p _) _ in
     let n = empties (runs c _) _ in
+    let e = empties (runs c _) _ in
+    let t = empties (runs e _) _ in
     filling p then filling p then filling p then filling p
     then filling c
     then filling n then filling n then filling n
+    then filling e then filling t
     then fillingAll p then fillingAll p then fillingAll p then fillingAll p
     then filling p then fillingAll p
     then over

@@ -4,7 +4,7 @@ use Prim.Native.Nat.{ℕ, _+_, _*_}
 use mathlib.Core.List.{List, [], _∷_, _++_}
 use lib.IntN.{ℤ, pos, negℤ}
 use lib.ListN.{replicate}
-use Rattle.posting.specs.Kinds.{trade, rate, call, net}
+use Rattle.posting.specs.Kinds.{trade, rate, call, net, everyAccount}
 use Rattle.site.specs.Sends.{DELIVER}
 use Rattle.machine.specs.declared.Board.{Board}
 use Rattle.steps.specs.declared.Cut.the-variants.{Whole}
@@ -30,6 +30,14 @@ afterCalls = drained (running parted (Offer 0 call 2 2 0 Whole ∷ Offer 1 call 
 -- a NET of account 1 and one of account 2, and a drain to quiet
 unfoldable pub afterNets : Board
 afterNets = drained (running afterCalls (Offer 0 net 1 1 0 Whole ∷ Offer 1 net 2 2 0 Whole ∷ [])) drainLimit .board
+
+-- after the CALLs, a TRADE of accounts 3 and 15 and a NET of every account, and a drain to quiet; then another NET of every account
+unfoldable pub afterNetOfAll : Board
+afterNetOfAll =
+    drained (running afterCalls (Offer 0 trade 15 3 500 Whole ∷ Offer 1 net everyAccount everyAccount 0 Whole ∷ [])) drainLimit .board
+
+unfoldable pub nettedAgain : Board
+nettedAgain = drained (running afterNetOfAll (Offer 0 net everyAccount everyAccount 0 Whole ∷ [])) drainLimit .board
 
 -- ---- what is looked at
 
@@ -75,6 +83,22 @@ figures =
     ∷ pos 0 ∷ pos 0 ∷ pos 0 ∷ pos 1001
     ∷ pos 0 ∷ pos 250 ∷ pos 52 ∷ negℤ (pos 1001)
     ∷ (replicate 52 (pos 0) ++ (pos 8 ∷ pos 9 ∷ [])))
+    -- NET 255: settled of every account rises by its position, which becomes 0; the sums come to 0
+    ∷ part afterNetOfAll 1 (lent 1) 0 toEnd
+    gives numbers
+    (pos 0 ∷ pos 0 ∷ pos 0 ∷ pos 0
+    ∷ pos 0 ∷ pos 0 ∷ pos 0 ∷ pos 1001
+    ∷ pos 0 ∷ pos 250 ∷ pos 52 ∷ negℤ (pos 1001)
+    ∷ pos 0 ∷ pos 0 ∷ pos 0 ∷ negℤ (pos 500)
+    ∷ (replicate 44 (pos 0) ++ (pos 0 ∷ pos 0 ∷ pos 0 ∷ pos 500 ∷ pos 8 ∷ pos 9 ∷ [])))
+    -- a second one changes nothing more
+    ∷ part nettedAgain 1 (lent 1) 0 toEnd
+    gives numbers
+    (pos 0 ∷ pos 0 ∷ pos 0 ∷ pos 0
+    ∷ pos 0 ∷ pos 0 ∷ pos 0 ∷ pos 1001
+    ∷ pos 0 ∷ pos 250 ∷ pos 52 ∷ negℤ (pos 1001)
+    ∷ pos 0 ∷ pos 0 ∷ pos 0 ∷ negℤ (pos 500)
+    ∷ (replicate 44 (pos 0) ++ (pos 0 ∷ pos 0 ∷ pos 0 ∷ pos 500 ∷ pos 8 ∷ pos 9 ∷ [])))
     -- all sites: account 2 of site 0, of 1, of 2; what lies beyond stays
     ∷ accountOfAll parted 0 2 gives four (negℤ (pos 1001)) (pos 250) (pos 0) (pos 0)
     ∷ accountOfAll parted 1 2 gives four (pos 0) (pos 0) (pos 0) (pos 0)

@@ -1,6 +1,8 @@
 -- What a board has laid out on flat arrays: what each function makes of its array.
 -- Proof machinery: Laid in machine's proofs says that the arrays then show the board. Rests on arrays and index, on site, posting and sets.
 use Prim.Native.Nat.{ℕ, zero, suc, _+_, _*_, _<_, _≤_}
+use mathlib.Core.Path.{_≡_}
+use mathlib.Core.Bool.{true}
 use mathlib.Core.List.{List, [], _∷_}
 use lib.ListN.{getD, set}
 use lib.Seq.{sets}
@@ -9,6 +11,7 @@ use Rattle.sets.specs.Sets.{capacity, setOf}
 use Rattle.posting.specs.declared.Posting.{Posting}
 use Rattle.posting.specs.declared.Table.{Table}
 use Rattle.posting.specs.declared.Record.{Record}
+use Rattle.posting.specs.Kinds.{kinds, accountsOk}
 use Rattle.posting.specs.Conflicts.{row, noPosting}
 use Rattle.posting.specs.Records.{contains}
 use Rattle.site.specs.declared.Site.{Site}
@@ -58,9 +61,8 @@ indexedTo ws t n = upTo (λ m l. indexing l m (row t m .kind) (row t m .a) (row 
 -- the rows offered have kinds and accounts
 pub record Ranged (t : Table) : Type 0 where
   pub count : t .count ≤ capacity
-  pub kinds : (m : ℕ) → m < t .count → row t m .kind < 4
-  pub from : (m : ℕ) → m < t .count → row t m .a < 16
-  pub into : (m : ℕ) → m < t .count → row t m .b < 16
+  pub kinds : (m : ℕ) → m < t .count → row t m .kind < kinds
+  pub accounts : (m : ℕ) → m < t .count → accountsOk (row t m .kind) (row t m .a) (row t m .b) ≡ true
 
 -- all sets
 unfoldable pub layingSets : List ℕ → Table → List Site → List Tally → Set → List Set → List ℕ

@@ -6,7 +6,7 @@ use Rattle.sets.specs.Below.{allBelow, anyBelow, allOf}
 use Rattle.sets.specs.Masks.{hasBit}
 use Rattle.sets.specs.Numbers.{listed, distinct}
 use Rattle.sets.specs.Words.{member, insert, remove, insertIf, wordwise, union, intersect, isEmpty, isSubset, membersBelow, members, collect}
-use Rattle.posting.specs.Kinds.{inRow, fieldsOk, matrixEntry, allPairs, turnedAlike, symmetric, fixedPairs, fixedPair, pairOk, hasFixedPairs}
+use Rattle.posting.specs.Kinds.{inRow, netOfAll, accountsOk, fieldsOk, matrixEntry, allPairs, turnedAlike, symmetric, fixedPairs, fixedPair, pairOk, hasFixedPairs}
 use Rattle.posting.specs.Conflicts.{row, offeredBy, offered, touches, shares, conflicting, conflict, conflictSet}
 use Rattle.posting.specs.Records.{numbersOf, contains, append}
 use Rattle.books.specs.Effect.{sizeOfCall, change, effect}
@@ -25,7 +25,7 @@ unfolding ones onesIn allBelow anyBelow allOf hasBit listed distinct member inse
 of-sets = true
 
 unfoldable pub of-posting : Bool
-unfolding inRow fieldsOk matrixEntry allPairs turnedAlike symmetric fixedPairs fixedPair pairOk hasFixedPairs row offeredBy offered touches shares conflicting conflict conflictSet numbersOf contains append
+unfolding inRow netOfAll accountsOk fieldsOk matrixEntry allPairs turnedAlike symmetric fixedPairs fixedPair pairOk hasFixedPairs row offeredBy offered touches shares conflicting conflict conflictSet numbersOf contains append
 of-posting = true
 
 unfoldable pub of-books : Bool

@@ -143,7 +143,7 @@ module _ (a : Arrays) (p : ℕ) (hp : p < sites) (r : Laid) (after : Record) (so
         other-entries = λ q h n. so .slots (entryOf q) (λ e. absurd (omega arith));
         same-table = delivered-table;
         same-log = delivered-log;
-        same-index = λ account kind u v. so .slots (kindOf account kind) (λ e. absurd (omega arith));
+        same-index = λ line kind u v. so .slots (kindOf line kind) (λ e. absurd (omega arith));
         other-have = λ q h n. so .slots (haveOf q) (λ e. n (omega arith));
       }
 
@@ -234,7 +234,7 @@ module _ (a : Arrays) (ok : Right a) (p : ℕ) (hp : p < sites) where
             amounts-long = ok .amounts-long;
             masks-long = ok .masks-long;
             indexed =
-                indexed-same (ok .indexed) (λ account kind u v. next-slot (kindOf account kind) (λ e. absurd (omega arith))) next-table;
+                indexed-same (ok .indexed) (λ line kind u v. next-slot (kindOf line kind) (λ e. absurd (omega arith))) next-table;
             have = next-have;
           }
 

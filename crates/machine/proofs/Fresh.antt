@@ -98,7 +98,7 @@ fresh-right =
       bytes-long = length-replicate {A = ℕ} bytesLong 0;
       amounts-long = length-replicate {A = ℕ} capacity 0;
       masks-long = length-replicate {A = ℕ} cells 0;
-      indexed = indexed-empty (replicate setsLong 0) (tableOf zeros) (λ a k _ _. slot-zero setsLong (kindOf a k)) refl;
+      indexed = indexed-empty (replicate setsLong 0) (tableOf zeros) (λ line k _ _. slot-zero setsLong (kindOf line k)) refl;
       have = none;
     }
   where

@@ -215,8 +215,7 @@ sound-ranged b shape sound =
     record {
       count = facts .count;
       kinds = λ m h. row-kind _ _ _ _ (of-row m h .within);
-      from = λ m h. of-row m h .first;
-      into = λ m h. of-row m h .second;
+      accounts = λ m h. of-row m h .accounts-ok;
     }
   where
     facts : Sound b

@@ -12,13 +12,14 @@ use Rattle.sets.specs.declared.Set.{Set}
 use Rattle.sets.proofs.WordLaws.{collect-shape}
 use Rattle.sets.specs.Sets.{words, capacity, ofWords, emptySet, has}
 use Rattle.posting.specs.declared.Table.{Table}
+use Rattle.posting.specs.Kinds.{kinds}
 use Rattle.posting.specs.Conflicts.{row, noPosting, tableWith}
 use Rattle.posting.specs.Records.{contains}
 use Rattle.site.specs.declared.Site.{Site}
 use Rattle.site.specs.declared.Tally.{Tally}
 use Rattle.site.specs.Sites.{sites, noSet, noSite, noTally}
 use Rattle.sets.proofs.SetLaws.{has-set-of}
-use Rattle.arrays.specs.Layout.{poolSlot, unionOf, entryOf, kindOf, haveOf, slots, shownSlots, kindSlots, setsLong}
+use Rattle.arrays.specs.Layout.{poolSlot, unionOf, entryOf, kindOf, haveOf, slots, shownSlots, indexRows, kindSlots, setsLong}
 use Rattle.arrays.specs.Arrays.{slotSet, storing, hasIn}
 use Rattle.arrays.proofs.Slots.{part-ext, slot-zero, slot-other, slot-same, long-stored, has-slot}
 use Rattle.index.specs.Index.{indexing, Indexed}
@@ -161,10 +162,10 @@ module _ (t : Table) (ranged : Ranged t) (ws : List ℕ) where
       up-keeps enters (λ r. slotSet r other ≡ slotSet ws other) (t .count)
       (λ m r h e.
       let fits : m < capacity = omega (arith, ranged .count) in
-      slot-indexed-other r m (row t m .kind) (row t m .a) (row t m .b) fits (ranged .kinds m h) (ranged .from m h) (ranged .into m h) other out ∙ e)
+      slot-indexed-other r m (row t m .kind) (row t m .a) (row t m .b) fits (ranged .kinds m h) (ranged .accounts m h) other out ∙ e)
       ws refl
 
-  module _ (long : length ws ≡ setsLong) (rows : length (t .rows) ≡ capacity) (none : (a k : ℕ) → a < 16 → k < 4 → slotSet ws (kindOf a k) ≡ emptySet) where
+  module _ (long : length ws ≡ setsLong) (rows : length (t .rows) ≡ capacity) (none : (line k : ℕ) → line < indexRows → k < kinds → slotSet ws (kindOf line k) ≡ emptySet) where
     abbrev upto : ℕ → Table
     upto n = record { count = n; rows = t .rows }
 
@@ -179,7 +180,7 @@ module _ (t : Table) (ranged : Ranged t) (ws : List ℕ) where
         let room : n < capacity = omega (arith, ranged .count) in
         let m : n < t .count = omega arith in
         rw (← one-more n)
-        (indexed-offer (index-right n (omega arith)) (index-long n ∙ long) (row t n) room rows (ranged .kinds n m) (ranged .from n m) (ranged .into n m))
+        (indexed-offer (index-right n (omega arith)) (index-long n ∙ long) (row t n) room rows (ranged .kinds n m) (ranged .accounts n m))
 
 -- ---- all of it
 
@@ -239,12 +240,12 @@ module _ (b : Board) (shape : BoardShape b) (ranged : Ranged (b .table)) where
       slot-other ofPostings poolSlot (b .pool) (shape .pool .long) slot (λ e. omega arith)
       ∙ postings-keep (b .tallies) (b .entries) unions entries ofRecords slot (inr h)
 
-  index-none : (a k : ℕ) → a < 16 → k < 4 → slotSet ofPool (kindOf a k) ≡ emptySet
-  index-none a k ha hk =
-      kept (kindOf a k) (inr (omega arith))
-      ∙ have-keep (b .sites) (shape .each-site) ofSites (kindOf a k) (omega arith)
-      ∙ sites-keep (b .sites) (shape .each-site) zeros (kindOf a k) (omega arith)
-      ∙ slot-zero setsLong (kindOf a k)
+  index-none : (line k : ℕ) → line < indexRows → k < kinds → slotSet ofPool (kindOf line k) ≡ emptySet
+  index-none line k hl hk =
+      kept (kindOf line k) (inr (omega arith))
+      ∙ have-keep (b .sites) (shape .each-site) ofSites (kindOf line k) (omega arith)
+      ∙ sites-keep (b .sites) (shape .each-site) zeros (kindOf line k) (omega arith)
+      ∙ slot-zero setsLong (kindOf line k)
 
   shown : (slot : ℕ) → slot < shownSlots → slotSet ofAll slot ≡ slotSet ofPool slot
   shown slot h = index-keep (b .table) ranged ofPool slot (inl h)

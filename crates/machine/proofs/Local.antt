@@ -11,6 +11,7 @@ use lib.Seq.{set-set}
 use Rattle.sets.specs.declared.Set.{Set}
 use Rattle.sets.specs.Sets.{capacity, withIf}
 use Rattle.posting.specs.declared.Table.{Table}
+use Rattle.posting.specs.Kinds.{kinds}
 use Rattle.posting.specs.Conflicts.{row, noPosting}
 use Rattle.posting.specs.Records.{contains}
 use Rattle.books.specs.Books.{tabulate}
@@ -27,7 +28,7 @@ use Rattle.flight.specs.ByMask.{goodSent, setSent}
 use Rattle.steps.specs.declared.Cut.{Cut}
 use Rattle.steps.specs.Cuts.{sitesTo, afterDeliveryTo, downAfter}
 use Rattle.steps.specs.ByMask.{enters, entered}
-use Rattle.arrays.specs.Layout.{poolSlot, entryOf, kindOf, haveOf, setsLong, countsLong, bytesLong, downAt}
+use Rattle.arrays.specs.Layout.{poolSlot, entryOf, indexRows, kindOf, haveOf, setsLong, countsLong, bytesLong, downAt}
 use Rattle.arrays.specs.Arrays.{Arrays, slotSet, hasIn, byte}
 use Rattle.arrays.proofs.Slots.{has-slot}
 use Rattle.index.specs.Index.{Indexed}
@@ -64,7 +65,7 @@ pub record Elsewhere (p m : ℕ) (a d : Arrays) : Type 0 where
   pub other-entries : (q : ℕ) → q < capacity → q ≢ m → slotSet (d .sets) (entryOf q) ≡ slotSet (a .sets) (entryOf q)
   pub same-table : tableOf d ≡ tableOf a
   pub same-log : logOf d ≡ logOf a
-  pub same-index : (account kind : ℕ) → account < 16 → kind < 4 → slotSet (d .sets) (kindOf account kind) ≡ slotSet (a .sets) (kindOf account kind)
+  pub same-index : (line kind : ℕ) → line < indexRows → kind < kinds → slotSet (d .sets) (kindOf line kind) ≡ slotSet (a .sets) (kindOf line kind)
   pub other-have : (q : ℕ) → q < sites → q ≢ p → slotSet (d .sets) (haveOf q) ≡ slotSet (a .sets) (haveOf q)
 
 -- A receipt on the arrays does what its step says: refused by its cut it changes nothing; else the arrays show the step carried out, and stay right.
@@ -209,7 +210,7 @@ receipt-shown setup {a} {d} {form} {m} {from} {to} {s} {cut} hm ht fit r =
 
 pub indexed-same :
     {ws vs : List ℕ} {t u : Table} → Indexed ws t
-    → ((account kind : ℕ) → account < 16 → kind < 4 → slotSet vs (kindOf account kind) ≡ slotSet ws (kindOf account kind)) → u ≡ t → Indexed vs u
+    → ((line kind : ℕ) → line < indexRows → kind < kinds → slotSet vs (kindOf line kind) ≡ slotSet ws (kindOf line kind)) → u ≡ t → Indexed vs u
 indexed-same x same e =
     record {
       shape = λ a k h b. rw (same a k h b) (x .shape a k h b);

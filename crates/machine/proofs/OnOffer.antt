@@ -3,7 +3,7 @@
 use Prim.Native.Nat.{ℕ, _<_}
 use mathlib.Core.Path.{_≡_, refl, sym, ap, _∙_}
 use mathlib.Core.Logic.{inl, inr}
-use mathlib.Core.Bool.{false}
+use mathlib.Core.Bool.{true, false}
 use mathlib.Core.List.{List}
 use native.Mathlib.Omega.{arith}
 use lib.ListN.{length, getD, set, length-set}
@@ -13,6 +13,7 @@ use Rattle.sets.specs.Sets.{capacity, has}
 use Rattle.posting.specs.declared.Posting.{Posting}
 use Rattle.posting.specs.declared.Table.{Table}
 use Rattle.posting.specs.declared.Record.{Record}
+use Rattle.posting.specs.Kinds.{kinds, accountsOk}
 use Rattle.posting.specs.Conflicts.{tableWith}
 use Rattle.posting.specs.Records.{contains}
 use Rattle.books.proofs.Lists.{length-tabulate}
@@ -53,7 +54,7 @@ length-entered bs m p =
     )
 
 module _ (setup : Setup) (a : Arrays) (ok : Right a) (p : Posting) (room : getD (a .counts) countAt 0 < capacity)
-    (hk : p .kind < 4) (ha : p .a < 16) (hb : p .b < 16) where
+    (hk : p .kind < kinds) (named : accountsOk (p .kind) (p .a) (p .b) ≡ true) where
   abbrev m : ℕ
   m = getD (a .counts) countAt 0
 
@@ -68,7 +69,7 @@ module _ (setup : Setup) (a : Arrays) (ok : Right a) (p : Posting) (room : getD 
   indexed = withSets rowed (indexing (a .sets) m (p .kind) (p .a) (p .b))
 
   slot-kept : (slot : ℕ) → slot < shownSlots → slotSet (indexed .sets) slot ≡ slotSet (a .sets) slot
-  slot-kept slot h = slot-indexed-other (a .sets) m (p .kind) (p .a) (p .b) room hk ha hb slot (inl h)
+  slot-kept slot h = slot-indexed-other (a .sets) m (p .kind) (p .a) (p .b) room hk named slot (inl h)
 
   site-kept : (q : ℕ) → q < sites → siteOf indexed q ≡ siteOf rowed q
   unfolding siteOf recordIn
@@ -106,7 +107,7 @@ module _ (setup : Setup) (a : Arrays) (ok : Right a) (p : Posting) (room : getD 
 
   index-right : Indexed (indexed .sets) (tableOf indexed)
   unfolding tableOf
-  index-right = rw (table-kept ∙ row-table setup a ok p room) (indexed-offer (ok .indexed) (ok .sets-long) p room rows-long hk ha hb)
+  index-right = rw (table-kept ∙ row-table setup a ok p room) (indexed-offer (ok .indexed) (ok .sets-long) p room rows-long hk named)
 
   record-kept : (q : ℕ) → recordIn indexed q ≡ recordIn a q
   unfolding recordIn
@@ -127,7 +128,7 @@ module _ (setup : Setup) (a : Arrays) (ok : Right a) (p : Posting) (room : getD 
       have-kept : (q x : ℕ) → q < sites → x < capacity → hasIn (indexed .sets) (haveOf q) x ≡ contains (recordIn indexed q) x
       have-kept q x hq hx =
           has-slot (indexed .sets) (haveOf q) x hx
-          ∙ ap (λ (s : Set). has s x) (slot-indexed-other (a .sets) m (p .kind) (p .a) (p .b) room hk ha hb (haveOf q) (inr (omega arith)))
+          ∙ ap (λ (s : Set). has s x) (slot-indexed-other (a .sets) m (p .kind) (p .a) (p .b) room hk named (haveOf q) (inr (omega arith)))
           ∙ sym (has-slot (a .sets) (haveOf q) x hx)
           ∙ ok .have q x hq hx
           ∙ ap (λ (r : Record). contains r x) (sym (record-kept q))

@@ -16,7 +16,7 @@ use Rattle.sets.specs.declared.Set.{Set}
 use Rattle.sets.proofs.WordLaws.{member-below}
 use Rattle.sets.specs.Sets.{words, capacity, has, without}
 use Rattle.posting.specs.declared.Posting.{Posting}
-use Rattle.posting.specs.Kinds.{fieldsOk}
+use Rattle.posting.specs.Kinds.{kinds, fieldsOk}
 use Rattle.posting.proofs.KindLaws.{Fields, fields, row-kind}
 use Rattle.posting.specs.Records.{append}
 use Rattle.masks.specs.SiteMasks.{everySite, withSite}
@@ -109,21 +109,21 @@ module _ (setup : Setup) (a : Arrays) (ok : Right a) (sound : isSound (view setu
       rule : Fields posting
       rule = fields posting (fields-passed posting count unfit refl y)
 
-      kind-below : kind < 4
+      kind-below : kind < kinds
       kind-below = row-kind kind account other amount (rule .within)
 
       abbrev after : Arrays
-      after = offered setup a ok posting room kind-below (rule .first) (rule .second) site there cut
+      after = offered setup a ok posting room kind-below (rule .accounts-ok) site there cut
 
       accepted : late-offer ≡ 0 → record { board = view setup after; answer = Offered count } ≡ outcome
       unfolding view tableOf offerByMask
       accepted x =
           offer-done board sound site kind account other amount cut (few-sites setup a ok sound) why refl z unfit refl y late-offer refl x (view setup after)
-          (offer-shown setup a ok posting room kind-below (rule .first) (rule .second) site there cut)
+          (offer-shown setup a ok posting room kind-below (rule .accounts-ok) site there cut)
 
       offer-accepted : late-offer ≡ 0 → Gives setup (flat 0 after) outcome
       offer-accepted x = gives-as setup (flat 0 after) outcome (record { board = view setup after; answer = Offered count }) refl refl (accepted x)
-          (offer-right setup a ok posting room kind-below (rule .first) (rule .second) site there cut)
+          (offer-right setup a ok posting room kind-below (rule .accounts-ok) site there cut)
 
   pub offer-gives : Gives setup (flatOffer setup a site kind account other amount cut) outcome
   unfolding flatOffer

@@ -158,7 +158,7 @@ module _ (p m : ℕ) (hp : p < sites) (hm : m < capacity) (a : Arrays) (long : L
           other-entries = λ q h n. same (entryOf q) (o .entry q h n);
           same-table = refl;
           same-log = refl;
-          same-index = λ account kind h k. same (kindOf account kind) (λ e. omega (arith, o .behind (omega arith)));
+          same-index = λ line kind h k. same (kindOf line kind) (λ e. omega (arith, o .behind (omega arith)));
           other-have = λ q h n. same (haveOf q) (λ e. omega (arith, o .behind (omega arith)));
         }
 

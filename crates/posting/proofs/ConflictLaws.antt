@@ -1,25 +1,26 @@
--- Laws of conflicts: a shared account by the fields, sharing both ways round, conflicts symmetric and never of a posting with itself,
--- and what is in C(m). Rests on Conflicts. Assumes nothing.
+-- Laws of conflicts: what is touched, a shared account by the fields, a NET of every account shares one with every posting, sharing both
+-- ways round, conflicts symmetric and never of a posting with itself, and what is in C(m). Rests on Conflicts. Assumes nothing.
 use Prim.Native.Nat.{ℕ, _*_, _<_, _≤_}
-use mathlib.Core.Path.{_≡_, refl, sym, ap, ap₂, _∙_}
+use mathlib.Core.Path.{_≡_, refl, sym, ap, _∙_}
 use mathlib.Core.Logic.{_⊎_, inl, inr}
-use mathlib.Core.Bool.{Bool, true, false, not, _&&_, _||_, or-false}
+use mathlib.Core.Bool.{Bool, true, false, _&&_, _||_, or-false}
 use mathlib.Core.List.{List}
 use native.Mathlib.Omega.{arith}
 use native.Mathlib.Decide.{ℕ-discrete, decLt}
 use lib.Dec.{eqb, ltb}
 use lib.ListN.{length}
-use borrow.Author.Tests.{eq-eqb, ne-eqb, eqb-true, eqb-false, lt-ltb, ltb-true}
-use Rattle.sets.proofs.Truth.{both-ways, and-left, and-right, and-intro, or-cases, or-left, or-right, not-flips}
+use borrow.Author.Tests.{eq-eqb, ne-eqb, eqb-true, lt-ltb, ltb-true}
+use Rattle.sets.proofs.Truth.{test, both-ways, and-left, and-right, and-intro, or-cases, or-left, or-right}
 use Rattle.sets.proofs.BelowLaws.{any-at, any-from}
 use Rattle.sets.proofs.WordLaws.{member-insert, insert-past, member-collect, insert-shape, collect-shape}
 use Rattle.sets.specs.Words.{member, insert, collect}
 use Rattle.sets.specs.Sets.{words, capacity, has, Shape}
 use Rattle.posting.specs.declared.Posting.{Posting}
 use Rattle.posting.specs.declared.Table.{Table}
-use Rattle.posting.specs.Kinds.{accounts, symmetric, matrixEntry}
-use Rattle.posting.proofs.KindLaws.{symmetric-at}
+use Rattle.posting.specs.Kinds.{accounts, netsAll, fieldsOk, symmetric}
+use Rattle.posting.proofs.KindLaws.{fields, accounts-cases, symmetric-at}
 use Rattle.posting.specs.Conflicts.{row, offered, offeredBy, touches, shares, conflicting, conflict, conflictSet}
+use Rattle.posting.specs.Touched.{touchesSome}
 
 -- ---- the table
 
@@ -38,23 +39,43 @@ below-offered t m h l = rw (lt-ltb m (t .count) h, lt-ltb m capacity l)
 
 pub touches-account : (p : Posting) (k : ℕ) → touches p k ≡ true → k < accounts
 unfolding touches
-touches-account p k t = ltb-true k accounts (and-left (ltb k accounts) (eqb k (p .a) || eqb k (p .b)) t)
+touches-account p k t = ltb-true k accounts (and-left (ltb k accounts) ((eqb k (p .a) || eqb k (p .b)) || netsAll p) t)
+
+-- what nets every account touches each
+pub touches-all : (p : Posting) (k : ℕ) → netsAll p ≡ true → k < accounts → touches p k ≡ true
+unfolding touches
+touches-all p k e h = rw (lt-ltb k accounts h) (or-right (eqb k (p .a) || eqb k (p .b)) (netsAll p) e)
 
 pub touches-first : (p : Posting) → p .a < accounts → touches p (p .a) ≡ true
 unfolding touches
-touches-first p h = rw (lt-ltb (p .a) accounts h) (or-left (eqb (p .a) (p .a)) (eqb (p .a) (p .b)) (eq-eqb (p .a) (p .a) refl))
+touches-first p h =
+    rw (lt-ltb (p .a) accounts h)
+    (or-left (eqb (p .a) (p .a) || eqb (p .a) (p .b)) (netsAll p) (or-left (eqb (p .a) (p .a)) (eqb (p .a) (p .b)) (eq-eqb (p .a) (p .a) refl)))
 
 pub touches-second : (p : Posting) → p .b < accounts → touches p (p .b) ≡ true
 unfolding touches
-touches-second p h = rw (lt-ltb (p .b) accounts h) (or-right (eqb (p .b) (p .a)) (eqb (p .b) (p .b)) (eq-eqb (p .b) (p .b) refl))
+touches-second p h =
+    rw (lt-ltb (p .b) accounts h)
+    (or-left (eqb (p .b) (p .a) || eqb (p .b) (p .b)) (netsAll p) (or-right (eqb (p .b) (p .a)) (eqb (p .b) (p .b)) (eq-eqb (p .b) (p .b) refl)))
 
-pub touches-cases : (p : Posting) (k : ℕ) → touches p k ≡ true → (k ≡ p .a) ⊎ (k ≡ p .b)
+-- of a posting that does not, its two fields tell
+pub touches-named : (p : Posting) (k : ℕ) → netsAll p ≡ false → touches p k ≡ (ltb k accounts && (eqb k (p .a) || eqb k (p .b)))
 unfolding touches
-touches-cases p k t =
-    elim (or-cases (eqb k (p .a)) (eqb k (p .b)) (and-right (ltb k accounts) (eqb k (p .a) || eqb k (p .b)) t)) [
+touches-named p k named = rw (named, or-false (eqb k (p .a) || eqb k (p .b)))
+
+pub touches-cases : (p : Posting) (k : ℕ) → netsAll p ≡ false → touches p k ≡ true → (k ≡ p .a) ⊎ (k ≡ p .b)
+touches-cases p k named t =
+    elim (or-cases (eqb k (p .a)) (eqb k (p .b)) (and-right (ltb k accounts) (eqb k (p .a) || eqb k (p .b)) (sym (touches-named p k named) ∙ t))) [
       | inl e ↦ inl (eqb-true k (p .a) e)
       | inr e ↦ inr (eqb-true k (p .b) e)
     ]
+
+-- a posting within the field rule touches some account
+pub fields-touch : (p : Posting) → fieldsOk p ≡ true → (k : ℕ) × (touches p k ≡ true)
+fields-touch p t = elim (accounts-cases (p .kind) (p .a) (p .b) (fields p t .accounts-ok)) [
+  | inl e ↦ (0, touches-all p 0 e (omega arith))
+  | inr h ↦ (p .a, touches-first p (h .0))
+]
 
 pub shares-at : (p q : Posting) (k : ℕ) → touches p k ≡ true → touches q k ≡ true → shares p q ≡ true
 unfolding shares
@@ -67,14 +88,14 @@ shares-account p q t =
     let (k, h, both) = any-at (λ account. touches p account && touches q account) accounts t in
     (k, and-left (touches p k) (touches q k) both, and-right (touches p k) (touches q k) both)
 
--- as the code tests it
-pub shares-fields : (p q : Posting) → shares p q ≡ (touches q (p .a) || touches q (p .b))
-shares-fields p q = both-ways (shares p q) (touches q (p .a) || touches q (p .b)) there back
+-- as the code tests it, of a posting that does not net every account
+pub shares-fields : (p q : Posting) → netsAll p ≡ false → shares p q ≡ (touches q (p .a) || touches q (p .b))
+shares-fields p q named = both-ways (shares p q) (touches q (p .a) || touches q (p .b)) there back
   where
     there : shares p q ≡ true → (touches q (p .a) || touches q (p .b)) ≡ true
     there t =
         let (k, u, v) = shares-account p q t in
-        elim (touches-cases p k u) [
+        elim (touches-cases p k named u) [
           | inl e ↦ or-left (touches q (p .a)) (touches q (p .b)) (ap (touches q) (sym e) ∙ v)
           | inr e ↦ or-right (touches q (p .a)) (touches q (p .b)) (ap (touches q) (sym e) ∙ v)
         ]
@@ -84,6 +105,37 @@ shares-fields p q = both-ways (shares p q) (touches q (p .a) || touches q (p .b)
       | inl u ↦ shares-at p q (p .a) (touches-first p (touches-account q (p .a) u)) u
       | inr u ↦ shares-at p q (p .b) (touches-second p (touches-account q (p .b) u)) u
     ]
+
+-- and of one that does: whether the other touches any
+touches-some : (q : Posting) (k : ℕ) → touches q k ≡ true → touchesSome q ≡ true
+unfolding touchesSome
+touches-some q k t = elim (test (netsAll q)) [
+  | inl e ↦ rw e
+  | inr e ↦ rw e (elim (touches-cases q k e t) [
+    | inl a ↦ or-left (ltb (q .a) accounts) (ltb (q .b) accounts) (lt-ltb (q .a) accounts (omega (arith, touches-account q k t, a)))
+    | inr b ↦ or-right (ltb (q .a) accounts) (ltb (q .b) accounts) (lt-ltb (q .b) accounts (omega (arith, touches-account q k t, b)))
+  ])
+]
+
+some-touches : (q : Posting) → touchesSome q ≡ true → (k : ℕ) × (touches q k ≡ true)
+unfolding touchesSome
+some-touches q t = elim (or-cases (netsAll q) (ltb (q .a) accounts || ltb (q .b) accounts) t) [
+  | inl e ↦ (0, touches-all q 0 e (omega arith))
+  | inr h ↦ elim (or-cases (ltb (q .a) accounts) (ltb (q .b) accounts) h) [
+    | inl a ↦ (q .a, touches-first q (ltb-true (q .a) accounts a))
+    | inr b ↦ (q .b, touches-second q (ltb-true (q .b) accounts b))
+  ]
+]
+
+pub shares-all : (p q : Posting) → netsAll p ≡ true → shares p q ≡ touchesSome q
+shares-all p q e =
+    both-ways (shares p q) (touchesSome q)
+    (λ t. let (k, u, v) = shares-account p q t in touches-some q k v)
+    (λ t. let (k, v) = some-touches q t in shares-at p q k (touches-all p k e (touches-account q k v)) v)
+
+-- a NET of every account shares an account with every posting
+pub net-all-shares : (p q : Posting) → netsAll p ≡ true → fieldsOk q ≡ true → shares p q ≡ true
+net-all-shares p q e t = let (k, v) = fields-touch q t in shares-at p q k (touches-all p k e (touches-account q k v)) v
 
 pub shares-turned : (p q : Posting) → shares p q ≡ shares q p
 shares-turned p q = both-ways (shares p q) (shares q p) (turn p q) (turn q p)

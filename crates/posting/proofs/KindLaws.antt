@@ -2,10 +2,10 @@
 -- and what a symmetric matrix and one with the fixed pairs say of each pair. Rests on Kinds. Assumes nothing.
 use Prim.Native.Nat.{ℕ, _+_, _*_, _/_, _%_, _<_, _≤_}
 use mathlib.Core.Path.{_≡_, refl, sym, ap₂, _∙_}
-use mathlib.Core.Logic.{inl, inr}
+use mathlib.Core.Logic.{_⊎_, inl, inr}
 use mathlib.Core.Bool.{Bool, true, false, cond, not, _&&_, Bool·beq}
 use native.Mathlib.Omega.{arith}
-use native.Mathlib.Decide.{decLt, ℕ-discrete}
+use native.Mathlib.Decide.{decLt}
 use lib.Dec.{eqb, ltb, leb}
 use borrow.Author.Tests.{eq-eqb, ne-eqb, eqb-true, eqb-false, ltb-true, leb-true}
 use Rattle.sets.proofs.Truth.{never, both-ways, and-left, and-right, or-cases, not-flips}
@@ -13,7 +13,7 @@ use Rattle.sets.specs.Below.{allBelow}
 use Rattle.sets.proofs.BelowLaws.{all-at, all-from}
 use Rattle.sets.specs.Masks.{hasBit}
 use Rattle.posting.specs.declared.Posting.{Posting}
-use Rattle.posting.specs.Kinds.{trade, rate, call, net, kinds, accounts, inRow, fieldsOk, matrixEntry, allPairs, turnedAlike, symmetric, fixedPairs, fixedPair, pairOk, hasFixedPairs}
+use Rattle.posting.specs.Kinds.{trade, rate, call, net, kinds, accounts, everyAccount, netOfAll, netsAll, accountsOk, inRow, fieldsOk, matrixEntry, allPairs, turnedAlike, symmetric, fixedPairs, fixedPair, pairOk, hasFixedPairs}
 
 -- ---- fields
 
@@ -30,20 +30,36 @@ row-one-account kind a b amount k d = rw (ne-eqb kind trade k, ne-eqb b a d) (go
 
 -- what the field rule says of a posting
 pub record Fields (p : Posting) : Type 0 where
-  pub first : p .a < accounts
-  pub second : p .b < accounts
+  pub accounts-ok : accountsOk (p .kind) (p .a) (p .b) ≡ true
   pub within : inRow (p .kind) (p .a) (p .b) (p .amount) ≡ true
 
 pub fields : (p : Posting) → fieldsOk p ≡ true → Fields p
 unfolding fieldsOk
 fields p t =
+    let first = accountsOk (p .kind) (p .a) (p .b) in
     let row = inRow (p .kind) (p .a) (p .b) (p .amount) in
-    let rest : (ltb (p .b) accounts && row) ≡ true = and-right (ltb (p .a) accounts) (ltb (p .b) accounts && row) t in
-    record {
-      first = ltb-true (p .a) accounts (and-left (ltb (p .a) accounts) (ltb (p .b) accounts && row) t);
-      second = ltb-true (p .b) accounts (and-left (ltb (p .b) accounts) row rest);
-      within = and-right (ltb (p .b) accounts) row rest;
-    }
+    record { accounts-ok = and-left first row t; within = and-right first row t }
+
+-- the accounts that may stand: 255 of a NET, or two accounts
+pub accounts-cases : (kind a b : ℕ) → accountsOk kind a b ≡ true → (netOfAll kind a b ≡ true) ⊎ ((a < accounts) × (b < accounts))
+unfolding accountsOk
+accounts-cases kind a b t = elim (or-cases (netOfAll kind a b) (ltb a accounts && ltb b accounts) t) [
+  | inl e ↦ inl e
+  | inr e ↦ inr (ltb-true a accounts (and-left (ltb a accounts) (ltb b accounts) e), ltb-true b accounts (and-right (ltb a accounts) (ltb b accounts) e))
+]
+
+-- two accounts, where not every account is netted
+pub named-accounts : (kind a b : ℕ) → accountsOk kind a b ≡ true → netOfAll kind a b ≡ false → (a < accounts) × (b < accounts)
+named-accounts kind a b t e = elim (accounts-cases kind a b t) [ inl u ↦ absurd (never u e) | inr h ↦ h ]
+
+-- what nets every account is a NET; a TRADE does not
+pub nets-all-net : (p : Posting) → netsAll p ≡ true → p .kind ≡ net
+unfolding netOfAll
+nets-all-net p t = eqb-true (p .kind) net (and-left (eqb (p .kind) net) (eqb (p .a) everyAccount && eqb (p .b) everyAccount) t)
+
+pub trade-names : (p : Posting) → p .kind ≡ trade → netsAll p ≡ false
+unfolding netOfAll
+trade-names p k = rw k
 
 module _ (kind a b amount : ℕ) (t : inRow kind a b amount ≡ true) where
   pub row-trade : kind ≡ trade → (a ≡ b → ⊥) × (1 ≤ amount) × (amount ≤ 1_000_000_000)

@@ -9,7 +9,7 @@ use Rattle.sets.specs.Below.{anyBelow}
 use Rattle.sets.specs.Sets.{capacity, with, setOf}
 use Rattle.posting.specs.declared.Posting.{Posting}
 use Rattle.posting.specs.declared.Table.{Table}
-use Rattle.posting.specs.Kinds.{accounts, matrixEntry}
+use Rattle.posting.specs.Kinds.{accounts, netsAll, matrixEntry}
 
 -- ---- the table
 
@@ -39,9 +39,9 @@ tableWith t p = record { count = t .count + 1; rows = set (t .rows) (t .count) p
 
 -- ---- accounts
 
--- a posting touches its accounts a and b; what is no account is touched by none
+-- a posting touches its accounts a and b, or every account if it nets them all; what is no account is touched by none
 unfoldable pub touches : Posting → ℕ → Bool
-touches p account = ltb account accounts && (eqb account (p .a) || eqb account (p .b))
+touches p account = ltb account accounts && ((eqb account (p .a) || eqb account (p .b)) || netsAll p)
 
 -- some account is touched by both
 unfoldable pub shares : Posting → Posting → Bool

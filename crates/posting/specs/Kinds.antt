@@ -39,9 +39,25 @@ inRow kind a b amount =
     (cond (eqb kind net) (eqb b a && eqb amount 0)
     false)))
 
--- the fields are accounts, and within the kind's row; refusal 9 otherwise
+-- what stands in place of both accounts where every account is meant
+abbrev pub everyAccount : ℕ
+everyAccount = 255
+
+-- a NET with both accounts 255
+unfoldable pub netOfAll : ℕ → ℕ → ℕ → Bool
+netOfAll kind a b = eqb kind net && (eqb a everyAccount && eqb b everyAccount)
+
+-- the posting nets every account
+abbrev pub netsAll : Posting → Bool
+netsAll p = netOfAll (p .kind) (p .a) (p .b)
+
+-- both are accounts, or both are 255 of a NET
+unfoldable pub accountsOk : ℕ → ℕ → ℕ → Bool
+accountsOk kind a b = netOfAll kind a b || (ltb a accounts && ltb b accounts)
+
+-- the accounts may stand for the kind, and all is within the kind's row; refusal 9 otherwise
 unfoldable pub fieldsOk : Posting → Bool
-fieldsOk p = ltb (p .a) accounts && (ltb (p .b) accounts && inRow (p .kind) (p .a) (p .b) (p .amount))
+fieldsOk p = accountsOk (p .kind) (p .a) (p .b) && inRow (p .kind) (p .a) (p .b) (p .amount)
 
 -- ---- the matrix
 

@@ -3,8 +3,9 @@
 ghost use mathlib.Core.Path.{_≡_};
 ghost use mathlib.Core.Bool.{not, _&&_};
 ghost use Prim.Native.Nat.{_<_, _/_, _%_};
-ghost use Rattle.posting.specs.Kinds.{inRow, fieldsOk, matrixEntry, symmetric, pairOk, hasFixedPairs};
+ghost use Rattle.posting.specs.Kinds.{inRow, netOfAll, accountsOk, fieldsOk, matrixEntry, symmetric, pairOk, hasFixedPairs};
 ghost use Rattle.posting.specs.Conflicts.{row, offeredBy, touches, shares, conflicting, conflictSet};
+ghost use Rattle.posting.specs.Touched.{touchesSome};
 ghost use Rattle.posting.specs.Records.{emptyRecord, contains, append};
 use sets::POSTINGS;
 use sets::Set;
@@ -24,6 +25,9 @@ pub const PAIRS: u8 = 16;
 
 // Accounts are 0 to 15.
 pub const ACCOUNTS: u8 = 16;
+
+// What stands in place of both accounts of a NET where every account is meant.
+pub const EVERY_ACCOUNT: u8 = 255;
 
 // The largest amount of a TRADE, and the largest rate of a RATE.
 pub const TRADE_LIMIT: u32 = 1_000_000_000;
@@ -87,18 +91,41 @@ fn in_row(kind: u8, a: u8, b: u8, amount: u32) -> bool
     false
 }
 
+// Whether it is a NET of every account.
+pub fn net_of_all(kind: u8, a: u8, b: u8) -> bool
+    ensures { λ r. ⌜ r ≡ netOfAll kind a b ⌝ }
+{
+    if a != EVERY_ACCOUNT {
+        return false;
+    }
+    if b != EVERY_ACCOUNT {
+        return false;
+    }
+    kind == NET
+}
+
+// Whether both are accounts, or those of a NET of every account.
+fn accounts_ok(kind: u8, a: u8, b: u8) -> bool
+    ensures { λ r. ⌜ r ≡ accountsOk kind a b ⌝ }
+{
+    if net_of_all(kind, a, b) {
+        return true;
+    }
+    if ACCOUNTS <= a {
+        return false;
+    }
+    b < ACCOUNTS
+}
+
 impl Posting {
-    // Whether the fields are accounts, and within the kind's row of the table.
+    // Whether the accounts may stand for the kind, and all is within the kind's row of the table.
     pub fn fields_ok(self) -> bool
         ensures { λ r. ⌜ r ≡ fieldsOk self ⌝ }
     {
-        if ACCOUNTS <= self.a {
-            return false;
+        if accounts_ok(self.kind, self.a, self.b) {
+            return in_row(self.kind, self.a, self.b, self.amount);
         }
-        if ACCOUNTS <= self.b {
-            return false;
-        }
-        in_row(self.kind, self.a, self.b, self.amount)
+        false
     }
 
     // Whether the posting touches an account; what is no account is touched by none.
@@ -111,13 +138,33 @@ impl Posting {
         if account == self.a {
             return true;
         }
-        account == self.b
+        if account == self.b {
+            return true;
+        }
+        net_of_all(self.kind, self.a, self.b)
+    }
+
+    // Whether the posting touches some account.
+    fn touches_some(self) -> bool
+        ensures { λ r. ⌜ r ≡ touchesSome self ⌝ }
+    {
+        if net_of_all(self.kind, self.a, self.b) {
+            return true;
+        }
+        if self.a < ACCOUNTS {
+            return true;
+        }
+        self.b < ACCOUNTS
     }
 
     // Whether some account is touched by both.
     pub fn shares(self, other: Posting) -> bool
         ensures { λ r. ⌜ r ≡ shares self other ⌝ }
     {
+        let all = net_of_all(self.kind, self.a, self.b);
+        if all {
+            return other.touches_some();
+        }
         if other.touches(self.a) {
             return true;
         }

@@ -59,9 +59,13 @@ part7 : Hold (part 78)
 unfolding opens
 part7 = refl {a = results (part 78)}
 
-part8 : Hold (drop 91 table)
+part8 : Hold (part 91)
 unfolding opens
-part8 = refl {a = results (drop 91 table)}
+part8 = refl {a = results (part 91)}
+
+part9 : Hold (drop 104 table)
+unfolding opens
+part9 = refl {a = results (drop 104 table)}
 
 -- ---- the table
 
@@ -74,7 +78,8 @@ whole =
     (part-hold 52 13 table part5
     (part-hold 65 13 table part6
     (part-hold 78 13 table part7
-    part8))))))
+    (part-hold 91 13 table part8
+    part9)))))))
 
 pub refusals-hold : Hold refusals
 unfolding refusals table

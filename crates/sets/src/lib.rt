@@ -1,6 +1,10 @@
 // Sets of posting numbers, in 64-bit words.
 // Rests on nothing.
+ghost use Prim.Native.Nat.{_/_, _%_, _^_};
 ghost use mathlib.Core.Path.{_≡_};
+ghost use mathlib.Core.Bool.{cond};
+ghost use lib.Dec.{eqb};
+ghost use lib.Bits.{bitOr};
 ghost use Rattle.sets.specs.Sets.{emptySet, has, with, withIf, join, meet, subset, isEmptySet};
 
 // How many words a set has: one word holds 64 postings.
@@ -27,6 +31,16 @@ pub struct Set {
     pub words: [u64; WORDS],
 }
 
+// Word i of a set with m: a word that is not m's stays.
+fn word_with(w: u64, i: usize, m: usize) -> u64
+    ensures { λ r. ⌜ r ≡ cond (eqb i (m / 64)) (bitOr w (2 ^ (m % 64))) w ⌝ }
+{
+    if i == m / 64 {
+        return w | (1 << (m % 64));
+    }
+    w
+}
+
 impl Set {
     pub fn empty() -> Set
         ensures { λ r. ⌜ r ≡ emptySet ⌝ }
@@ -46,16 +60,15 @@ impl Set {
         (w >> (m % 64)) % 2 == 1
     }
 
-    // The set with m; with a number past the capacity, the set as it is.
+    // The set with m; with a number past the capacity, the set as it is. Every word is passed over, so that a set in registers stays there.
     pub fn with(mut self, m: usize) -> Set
         ensures { λ r. ⌜ r ≡ with self m ⌝ }
     {
-        if POSTINGS <= m {
-            return self;
+        for i in 0..WORDS {
+            let w = self.words[i];
+            let v = word_with(w, i, m);
+            self.words[i] = v;
         }
-        let i = m / 64;
-        let w = self.words[i];
-        self.words[i] = w | (1 << (m % 64));
         self
     }
 

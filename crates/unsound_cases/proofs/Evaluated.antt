@@ -55,9 +55,13 @@ part7 : Hold (part 72)
 unfolding opens
 part7 = refl {a = results (part 72)}
 
-part8 : Hold (drop 84 table)
+part8 : Hold (part 84)
 unfolding opens
-part8 = refl {a = results (drop 84 table)}
+part8 = refl {a = results (part 84)}
+
+part9 : Hold (drop 96 table)
+unfolding opens
+part9 = refl {a = results (drop 96 table)}
 
 -- ---- the table
 
@@ -70,7 +74,8 @@ whole =
     (part-hold 48 12 table part5
     (part-hold 60 12 table part6
     (part-hold 72 12 table part7
-    part8))))))
+    (part-hold 84 12 table part8
+    part9)))))))
 
 pub unsound-hold : Hold unsound
 unfolding unsound table

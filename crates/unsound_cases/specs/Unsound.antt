@@ -8,7 +8,7 @@ use Rattle.sets.specs.declared.Set.{Set}
 use Rattle.sets.specs.Sets.{words, capacity, emptySet, ofWords, with, membersOf}
 use Rattle.posting.specs.declared.Posting.{Posting}
 use Rattle.posting.specs.declared.Record.{Record}
-use Rattle.posting.specs.Kinds.{trade, rate, call, net}
+use Rattle.posting.specs.Kinds.{trade, rate, call, net, everyAccount}
 use Rattle.site.specs.declared.Setup.{Setup}
 use Rattle.site.specs.declared.Site.{Site}
 use Rattle.site.specs.declared.Tally.{Tally}
@@ -148,6 +148,17 @@ module _ (busy : Board) where
       ∷ sound (busyNet 2 call 5 5 1) gives said false
       ∷ sound (busyNet 2 net 5 6 0) gives said false
       ∷ sound (busyNet 2 net 5 5 1) gives said false
+      -- 255: of a NET alone, as both accounts, with amount 0
+      ∷ sound (busyNet 2 net everyAccount everyAccount 0) gives said true
+      ∷ sound (busyNet 2 net everyAccount 5 0) gives said false
+      ∷ sound (busyNet 2 net 5 everyAccount 0) gives said false
+      ∷ sound (busyNet 2 net everyAccount everyAccount 1) gives said false
+      ∷ sound (busyNet 2 trade everyAccount 1 1000) gives said false
+      ∷ sound (busyNet 2 trade 1 everyAccount 1000) gives said false
+      ∷ sound (busyNet 2 rate everyAccount everyAccount 250) gives said false
+      ∷ sound (busyNet 2 call everyAccount everyAccount 0) gives said false
+      ∷ sound (busyNet 2 net 16 16 0) gives said false
+      ∷ sound (busyNet 2 net 254 254 0) gives said false
       -- a THIRD in flight not to its owner; or to its owner and another
       ∷ sound (busyTo THIRD 0 1 2) gives said false
       ∷ sound (busyTo THIRD 0 1 3) gives said false

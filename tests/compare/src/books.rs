@@ -9,7 +9,7 @@ use crate::proved::{self, COUNT, DONE, RECORD, REFUSED};
 use crate::tally::Tally;
 use model::posting::{CALL, MAX_AMOUNT, MAX_RATE, NET, RATE, TRADE};
 use model::prng::Prng;
-use model::{Board, Posting, FIGURES, FIXED_PAIRS, POSTINGS, SITES};
+use model::{Board, Posting, FIGURES, FIXED_PAIRS, HOUSE_NET, POSTINGS, SITES};
 
 /// The postings of a table's bytes, if all are sound.
 fn sound(rows: &[u8]) -> Option<Vec<Posting>> {
@@ -49,7 +49,8 @@ fn same_books(tally: &mut Tally, rows: &[u8], record: &[u8], out: &mut [i64]) {
     });
 }
 
-/// Records whose sums are as large as they can be: so many TRADEs one way, then RATE, and CALLs and NETs.
+/// Records whose sums are as large as they can be: so many TRADEs one way, then RATE, and CALLs and NETs; last a NET of
+/// the whole house, of accounts that were netted or not.
 fn largest_books(tally: &mut Tally) {
     let posting = |kind, a, b, amount: u64| Posting {
         owner: 0,
@@ -67,7 +68,8 @@ fn largest_books(tally: &mut Tally) {
                 table.push(posting(CALL, k, k, 0));
                 table.push(posting(NET, k, k, 0));
             }
-            table.truncate(POSTINGS);
+            table.truncate(POSTINGS - 1);
+            table.push(HOUSE_NET);
             let record: Vec<u8> = (0..table.len()).map(|m| m as u8).collect();
             let turned: Vec<u8> = record.iter().rev().copied().collect();
             for record in [record, turned] {

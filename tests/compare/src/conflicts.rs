@@ -8,9 +8,10 @@ use crate::inputs::{
 use crate::proved::{self, DONE, REFUSED};
 use crate::tally::Tally;
 use model::gen::legal_matrix;
+use model::posting::KINDS;
 use model::prng::Prng;
-use model::{conflict, fields_ok, matrix_has_fixed_pairs, matrix_symmetric};
-use model::{Board, Posting, Set, ACCOUNTS, FIXED_PAIRS, POSTINGS, WORDS};
+use model::{conflict, fields_ok, matrix_has_fixed_pairs, matrix_symmetric, nets_house, touches};
+use model::{Board, Posting, Set, ACCOUNTS, FIXED_PAIRS, HOUSE_NET, POSTINGS, WORDS};
 
 fn same_fields(tally: &mut Tally, p: &Posting) {
     let model = fields_ok(p.kind.into(), p.a.into(), p.b.into(), p.amount.into());
@@ -55,9 +56,17 @@ pub fn matrices(tally: &mut Tally) {
     }
 }
 
-/// Document 01 knows no account past 15, and the model is not asked for one there: each such number is given to it
-/// as one that was not used before, by which nothing is shared. There are few of them in a table.
+/// The papers know no account past 15 but in a NET of the whole house, and the model is not asked for one elsewhere:
+/// each such number is given to it as one that was not used before, by which nothing is shared. There are few of them
+/// in a table. A posting without any account shares none with a NET of the whole house either: it is given to the model
+/// with a kind that conflicts with nothing.
 fn own_accounts(p: &Posting, unused: &mut u8) -> Posting {
+    if nets_house(p) {
+        return *p;
+    }
+    if !(0..ACCOUNTS as u8).any(|account| touches(p, account)) {
+        return Posting { kind: KINDS, ..*p };
+    }
     let mut known = |account| {
         if usize::from(account) < ACCOUNTS {
             return account;
@@ -82,7 +91,8 @@ fn same_conflict(tally: &mut Tally, matrix: u16, m: usize, p: &Posting, x: usize
     });
 }
 
-/// All pairs of kinds on all choices among three accounts, under matrices with and without each pair.
+/// All pairs of kinds on all choices among three accounts, and of each posting with a NET of the whole house, both ways
+/// round, under matrices with and without each pair.
 fn conflicts_by_kind(tally: &mut Tally) {
     let mut rng = Prng::new(2);
     let mut matrices = vec![0, u16::MAX, FIXED_PAIRS];
@@ -98,7 +108,10 @@ fn conflicts_by_kind(tally: &mut Tally) {
                 amount: 0,
             });
             same_conflict(tally, matrix, 5, &p, 6, &q);
+            same_conflict(tally, matrix, 5, &p, 6, &HOUSE_NET);
+            same_conflict(tally, matrix, 5, &HOUSE_NET, 6, &q);
         }
+        same_conflict(tally, matrix, 5, &HOUSE_NET, 6, &HOUSE_NET);
     }
 }
 

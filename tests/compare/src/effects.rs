@@ -6,7 +6,7 @@ use crate::proved::{self, DONE, NO_SIZE, REFUSED};
 use crate::tally::Tally;
 use model::posting::{CALL, CALLED, POSITION, RATE_OF};
 use model::prng::Prng;
-use model::{effect, Posting, ACCOUNTS, FIGURES};
+use model::{effect, nets_house, Posting, ACCOUNTS, FIGURES};
 
 /// How large position, rate, called and settled may be, so that one posting more overflows none.
 const ROOM: [u64; 4] = [
@@ -133,7 +133,8 @@ pub fn effects(tally: &mut Tally) {
             sound_posting(&mut rng, 16)
         };
         let any = rng.below(18) as u8;
-        let account = rng.pick(&[p.a, p.a, p.b, any, 255]);
+        let touched = if nets_house(&p) { any } else { p.a };
+        let account = rng.pick(&[touched, touched, p.b, any, 255]);
         let length = rng.pick(&[4, 4, 4, 4, 5, 9, 3, 0]);
         let mut figures: Vec<i64> = (0..length)
             .map(|at| figure(&mut rng, ROOM[at % 4]))

@@ -2,9 +2,10 @@
 // Rests on: the model's postings and its generator of numbers.
 
 use crate::proved::{COUNT, RECORD, ROW};
+use model::gen::HOUSE_NETS;
 use model::posting::{MAX_AMOUNT, MAX_RATE};
 use model::prng::Prng;
-use model::{fields_ok, Posting, POSTINGS, SITES};
+use model::{fields_ok, Posting, HOUSE_NET, POSTINGS, SITES};
 
 pub const EDGE_KINDS: [u8; 9] = [0, 1, 2, 3, 4, 5, 127, 128, 255];
 pub const EDGE_ACCOUNTS: [u8; 10] = [0, 1, 2, 14, 15, 16, 17, 128, 254, 255];
@@ -27,8 +28,13 @@ pub fn is_sound(p: &Posting) -> bool {
     fields_ok(p.kind.into(), p.a.into(), p.b.into(), p.amount.into())
 }
 
-/// A posting with sound fields, on accounts below a number from 2 to 16.
+/// A posting with sound fields: one of twenty is a NET of the whole house, the others are on accounts below a number
+/// from 2 to 16.
 pub fn sound_posting(rng: &mut Prng, accounts: u64) -> Posting {
+    if rng.percent(HOUSE_NETS) {
+        let owner = rng.below(3) as u8;
+        return Posting { owner, ..HOUSE_NET };
+    }
     let kind = rng.below(4) as u8;
     let a = rng.below(accounts);
     let (mut b, mut amount) = (a, 0);

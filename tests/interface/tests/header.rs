@@ -11,10 +11,11 @@ const HEADER: &str = "include/board.h";
 const SOURCE: &str = "crates/exports/src/lib.rt";
 
 /// The header's numbers, and where the proved crates name them.
-const NAMED: [(&str, &str, &str); 14] = [
+const NAMED: [(&str, &str, &str); 15] = [
     ("BOARD_SITES", "masks/src/lib.rt", "SITES"),
     ("BOARD_POSTINGS", "sets/src/lib.rt", "POSTINGS"),
     ("BOARD_WORDS", "sets/src/lib.rt", "WORDS"),
+    ("BOARD_EVERY_ACCOUNT", "posting/src/lib.rt", "EVERY_ACCOUNT"),
     ("BOARD_HEADER", "decoder/src/file.rt", "HEADER"),
     ("BOARD_EVENT", "decoder/src/file.rt", "EVENT"),
     ("BOARD_EVENTS", "decoder/src/file.rt", "EVENTS"),

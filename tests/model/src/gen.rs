@@ -5,7 +5,7 @@ use crate::board::Board;
 use crate::call::Call;
 use crate::flight::Message;
 use crate::odd::spoil;
-use crate::posting::{FIXED_PAIRS, MAX_AMOUNT, MAX_RATE};
+use crate::posting::{EVERY_ACCOUNT, FIXED_PAIRS, MAX_AMOUNT, MAX_RATE, NET};
 use crate::prng::Prng;
 use crate::runfile::Run;
 use crate::set::{has_site, members, POSTINGS, WORDS};
@@ -13,7 +13,8 @@ use crate::set::{has_site, members, POSTINGS, WORDS};
 /// What a run is made of; the shares are in a hundred events.
 #[derive(Clone, Copy, Debug)]
 pub struct Mix {
-    /// Postings use the accounts below this, 2 to 16: few accounts make many conflicts.
+    /// Postings use the accounts below this, 2 to 16, but for NETs of the whole house: few accounts make many
+    /// conflicts.
     pub accounts: u64,
     pub offers: u64,
     pub crashes: u64,
@@ -33,6 +34,8 @@ pub const LEADS: u64 = WORDS as u64;
 const HURRIED: u64 = 3;
 /// Postings in no record, from which on the share of offers rests.
 const MANY: usize = 64;
+/// NETs of the whole house in a hundred offers, before any is changed at random: one of twenty.
+pub const HOUSE_NETS: u64 = 5;
 
 pub fn random_mix(rng: &mut Prng) -> Mix {
     Mix {
@@ -124,8 +127,8 @@ pub fn refused_start(rng: &mut Prng) -> (u8, u8, u16) {
     }
 }
 
-/// An offer with sound fields.
-fn good_offer(rng: &mut Prng, site: u64, mix: &Mix) -> Call {
+/// Kind, a, b and amount of any row of the table, with accounts of the mix.
+fn plain_fields(rng: &mut Prng, mix: &Mix) -> (u64, u64, u64, u64) {
     let kind = rng.below(4);
     let a = rng.below(mix.accounts);
     let (mut b, mut amount) = (a, 0);
@@ -137,6 +140,16 @@ fn good_offer(rng: &mut Prng, site: u64, mix: &Mix) -> Call {
         let any = rng.within(0, MAX_RATE);
         amount = rng.pick(&[0, 1, MAX_RATE, any, any]);
     }
+    (kind, a, b, amount)
+}
+
+/// An offer with sound fields; one of twenty is a NET of the whole house.
+fn good_offer(rng: &mut Prng, site: u64, mix: &Mix) -> Call {
+    let (kind, a, b, amount) = if rng.percent(HOUSE_NETS) {
+        (NET.into(), EVERY_ACCOUNT.into(), EVERY_ACCOUNT.into(), 0)
+    } else {
+        plain_fields(rng, mix)
+    };
     Call::Offer {
         site,
         kind,

@@ -1,10 +1,11 @@
 // Holds: the parts of the model of the posting board, and the readings taken where its paper is open.
-// Rests on: document 01 (the law), W2 of document 02, Figure 1 of document 003 (the two rounds), docs/FORMATS.md (rows); no more.
+// Rests on: document 01 (the law), W2 and W14 of document 02, Figure 1 of document 003 (the two rounds), docs/FORMATS.md (rows); no more.
 //
 // Readings, each with its reason. R: refusals. S: steps. B: what a board is. P: program.
 //
 // R1  Receive refuses 7 for `from` as well as `to`: 7 says "a site number", without leaving one out.
-// R2  A kind above 3 or an account above 15 is 9: such a field lies in no row of the table.
+// R2  A kind above 3 is 9, and so is an account above 15 unless R12 allows it: such a field lies in no row of the
+//     table.
 // R3  Crash of a site that is down is 8: the site named is the one that acts.
 // R4  14 counts the sites that are down: crashes and cuts are the only ways down, each takes one site.
 // R5  14 and 15 are tested last on a cut, 14 first: rising number. With f reached every cut is 14.
@@ -14,6 +15,9 @@
 // R9  Drain's only refusal is 6; refused, it did 0 events. Any limit is fine, 0 included.
 // R10 Quiet is a question, not an event: it is answered on any board and never refused.
 // R11 Books refuse 6, 7, 16 for one site and 6, 16 for all; a longer slice is fine, its rest stays.
+// R12 255 is allowed as an account in a NET alone, in both places and with amount 0: W14 says "both accounts 255" and
+//     "for NET only", and leaves the rest of NET's row (b = a, amount 0). Any other use is 9, or 6 on a board
+//     handed in.
 //
 // S1  A cut offer takes its number and stays offered even when no FIRST went out: "offered ... cut or not".
 // S2  An offer leaves the offerer's seen set alone: only FIRST and the SECOND step add to it.
@@ -28,6 +32,10 @@
 // S9  An order needs no site that is up: the oracle acts.
 // S10 What is noted of a site only grows: GOOD, "contains m" and the union, even where a board built by hand has
 //     them before that site is heard. The paper is open here, and docs/DECISIONS.md decides.
+// S11 A NET of 255 shares an account with every posting, another NET of 255 included. Whether the two conflict is
+//     still the matrix's to say, by their kinds: W14 changes what is shared, not the matrix or its fixed pairs.
+// S12 A NET of 255 nets the accounts 0 to 15, each by its own position. 255 itself is no account: it has no figures,
+//     and no posting touches it.
 //
 // B1  C(m) ranges over the postings offered so far: others have no number.
 // B2  Site slots from n on are no sites of the board, so what stands in them is not judged; a set, mask or
@@ -79,8 +87,8 @@ pub use cause::{Cause, CAUSES};
 pub use drain::Ending;
 pub use flight::{Flight, Message, DELIVER, FIRST, FORMS, SECOND, THIRD};
 pub use posting::{
-    conflict, effect, fields_ok, matrix_has_fixed_pairs, matrix_symmetric, Posting, ACCOUNTS,
-    FIGURES, FIXED_PAIRS,
+    conflict, effect, fields_ok, matrix_has_fixed_pairs, matrix_symmetric, nets_house, share,
+    touches, Posting, ACCOUNTS, EVERY_ACCOUNT, FIGURES, FIXED_PAIRS, HOUSE_NET,
 };
 pub use program::run;
 pub use refusal::Refusal;

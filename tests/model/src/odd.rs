@@ -3,8 +3,11 @@
 
 use crate::board::Board;
 use crate::call::Call;
-use crate::posting::{ACCOUNTS, MAX_AMOUNT, MAX_RATE};
+use crate::posting::{ACCOUNTS, CALL, EVERY_ACCOUNT, MAX_AMOUNT, MAX_RATE, NET, RATE, TRADE};
 use crate::prng::Prng;
+
+/// Offers that misuse the mark of every account, in a hundred offers changed at random.
+const MISUSES: u64 = 10;
 
 /// A number near the edge of what a field allows; wide ones look sound in their low bits. Those that are not wide
 /// fit a byte, and with 256 postings offered each of them is a posting.
@@ -40,6 +43,28 @@ fn odd_cut(rng: &mut Prng, n: u64, wide: bool) -> Option<u64> {
     rng.pick(&[None, Some(2), Some(j), long, long, long, Some(beyond)])
 }
 
+/// Kind, a, b and amount of an offer that misuses the mark of every account, or has a number between the accounts
+/// and the mark: 9 each. Wide ones look like the NET of the whole house in their low bits.
+fn misused_mark(rng: &mut Prng, wide: bool) -> (u8, u64, u64, u64) {
+    let (every, accounts) = (u64::from(EVERY_ACCOUNT), ACCOUNTS as u64);
+    let (k, amount) = (rng.below(accounts), rng.within(1, MAX_RATE));
+    if wide && rng.percent(30) {
+        let far = every + rng.pick(&[256, 1 << 32]);
+        return rng.pick(&[(NET, far, far, 0), (NET, every, every, 1 << 32)]);
+    }
+    rng.pick(&[
+        (NET, every, k, 0),
+        (NET, k, every, 0),
+        (NET, every, every, amount),
+        (RATE, every, every, amount),
+        (CALL, every, every, 0),
+        (TRADE, every, k, amount),
+        (TRADE, k, every, amount),
+        (NET, every - 1, every - 1, 0),
+        (NET, accounts, accounts, 0),
+    ])
+}
+
 fn bend(rng: &mut Prng, value: &mut u64, edge: u64, wide: bool) {
     if rng.percent(25) {
         *value = odd_number(rng, edge, wide);
@@ -69,6 +94,7 @@ pub fn spoil(rng: &mut Prng, board: &Board, wide: bool, call: &mut Call) {
         bend(rng, value, edge, wide);
     }
     spoil_rest(rng, n, wide, call);
+    spoil_fields(rng, wide, call);
 }
 
 /// The amount and the cut.
@@ -81,6 +107,19 @@ fn spoil_rest(rng: &mut Prng, n: u64, wide: bool, call: &mut Call) {
     if let Call::Offer { cut, .. } | Call::Receive { cut, .. } | Call::Read { cut, .. } = call {
         if rng.percent(40) {
             *cut = odd_cut(rng, n, wide);
+        }
+    }
+}
+
+/// In few offers all four fields, whatever was changed before; the site and the cut stay.
+fn spoil_fields(rng: &mut Prng, wide: bool, call: &mut Call) {
+    if let Call::Offer {
+        kind, a, b, amount, ..
+    } = call
+    {
+        if rng.percent(MISUSES) {
+            let mark = misused_mark(rng, wide);
+            (*kind, *a, *b, *amount) = (mark.0.into(), mark.1, mark.2, mark.3);
         }
     }
 }

@@ -5,6 +5,9 @@
 pub const ACCOUNTS: usize = 16;
 pub const FIGURES: usize = 4 * ACCOUNTS;
 
+/// In both accounts of a NET: every account. It is a mark and no account, so it has no figures.
+pub const EVERY_ACCOUNT: u8 = 255;
+
 pub const KINDS: u8 = 4;
 pub const TRADE: u8 = 0;
 pub const RATE: u8 = 1;
@@ -32,18 +35,45 @@ pub struct Posting {
     pub amount: u32,
 }
 
-/// Whether the fields fit their row of the table.
+/// The NET of the whole house, offered by site 0.
+pub const HOUSE_NET: Posting = Posting {
+    owner: 0,
+    kind: NET,
+    a: EVERY_ACCOUNT,
+    b: EVERY_ACCOUNT,
+    amount: 0,
+};
+
+/// Whether the fields fit their row of the table. Only a NET may have the mark of every account, and then twice,
+/// as its row asks for b = a.
 pub fn fields_ok(kind: u64, a: u64, b: u64, amount: u64) -> bool {
-    let accounts = ACCOUNTS as u64;
-    if a >= accounts || b >= accounts {
-        return false;
-    }
+    let account = |x: u64| x < ACCOUNTS as u64;
     match kind {
-        0 => a != b && (1..=MAX_AMOUNT).contains(&amount),
-        1 => a == b && amount <= MAX_RATE,
-        2 | 3 => a == b && amount == 0,
+        0 => account(a) && account(b) && a != b && (1..=MAX_AMOUNT).contains(&amount),
+        1 => account(a) && a == b && amount <= MAX_RATE,
+        2 => account(a) && a == b && amount == 0,
+        3 => (account(a) || a == u64::from(EVERY_ACCOUNT)) && a == b && amount == 0,
         _ => false,
     }
+}
+
+/// Whether this is a NET of the whole house.
+pub fn nets_house(p: &Posting) -> bool {
+    p.kind == NET && p.a == EVERY_ACCOUNT && p.b == EVERY_ACCOUNT
+}
+
+/// Whether a posting touches an account. What is above 15, the mark of every account too, is none, and no posting
+/// touches it.
+pub fn touches(p: &Posting, account: u8) -> bool {
+    let named = p.a == account || p.b == account;
+    usize::from(account) < ACCOUNTS && (named || nets_house(p))
+}
+
+/// Whether two postings with sound fields share an account: there is one that both touch. Each touches one at
+/// least, so a NET of the whole house shares with every posting.
+pub fn share(p: &Posting, q: &Posting) -> bool {
+    let named = p.a == q.a || p.a == q.b || p.b == q.a || p.b == q.b;
+    named || nets_house(p) || nets_house(q)
 }
 
 /// What the matrix says for two kinds; no for a kind that is none.
@@ -59,10 +89,17 @@ pub fn matrix_has_fixed_pairs(matrix: u16) -> bool {
     matrix & FIXED_PAIRS == FIXED_PAIRS
 }
 
-/// Whether two postings conflict, given that their numbers differ.
+/// Whether two postings conflict, given that their numbers differ. The matrix decides by their kinds alone, also
+/// for a NET of the whole house.
 pub fn conflict(matrix: u16, p: &Posting, q: &Posting) -> bool {
-    let share = p.a == q.a || p.a == q.b || p.b == q.a || p.b == q.b;
-    share && says(matrix, p.kind, q.kind)
+    share(p, q) && says(matrix, p.kind, q.kind)
+}
+
+/// Settles the position of one account.
+fn settle(account: usize, figures: &mut [i64; FIGURES]) {
+    let k = 4 * account;
+    figures[k + SETTLED] += figures[k + POSITION];
+    figures[k + POSITION] = 0;
 }
 
 /// Posts one posting with sound fields. Exact on figures reached from zeros by 256 postings: no position
@@ -83,8 +120,8 @@ pub fn effect(posting: &Posting, figures: &mut [i64; FIGURES]) {
             figures[a + CALLED] += (size * rate).div_ceil(MAX_RATE) as i64;
         }
         _ => {
-            figures[a + SETTLED] += figures[a + POSITION];
-            figures[a + POSITION] = 0;
+            let netted = (0..ACCOUNTS).filter(|&k| touches(posting, k as u8));
+            netted.for_each(|k| settle(k, figures));
         }
     }
 }

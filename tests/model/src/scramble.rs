@@ -1,9 +1,10 @@
 // Holds: random changes that leave a board sound yet often beyond what any run reaches.
-// Rests on: board, posting, prng, sound, flight, set.
+// Rests on: board, posting, prng, gen, sound, flight, set.
 
 use crate::board::Board;
 use crate::flight::{DELIVER, FIRST};
-use crate::posting::Posting;
+use crate::gen::HOUSE_NETS;
+use crate::posting::{Posting, HOUSE_NET};
 use crate::prng::Prng;
 use crate::set::{below, one, site as bit, Set, POSTINGS};
 
@@ -40,12 +41,17 @@ fn any_set(rng: &mut Prng, board: &Board) -> Set {
     Set { words } & below(board.postings.len())
 }
 
-/// Postings like those offered, so that the other changes reach high numbers without a long run before.
+/// Postings like those offered, so that the other changes reach high numbers without a long run before; one of
+/// twenty is a NET of the whole house, whatever was offered.
 fn add_postings(rng: &mut Prng, board: &mut Board) {
     let any = rng.within(board.postings.len() as u64, POSTINGS as u64) as usize;
     let wanted = rng.pick(&[any, any, POSTINGS - 1, POSTINGS]);
     while board.postings.len() < wanted {
-        let like = board.postings[any_posting(rng, board)];
+        let like = if rng.percent(HOUSE_NETS) {
+            HOUSE_NET
+        } else {
+            board.postings[any_posting(rng, board)]
+        };
         let owner = any_site(rng, board) as u8;
         board.postings.push(Posting { owner, ..like });
     }

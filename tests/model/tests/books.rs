@@ -23,13 +23,21 @@ fn wide_effect(p: &Posting, figures: &mut [[i128; 4]; ACCOUNTS]) {
             figures[a][2] += product / 10_000 + rest;
         }
         _ => {
-            figures[a][3] += figures[a][0];
-            figures[a][0] = 0;
+            for (k, figures) in figures.iter_mut().enumerate() {
+                if k == a || (p.a, p.b) == (255, 255) {
+                    figures[3] += figures[0];
+                    figures[0] = 0;
+                }
+            }
         }
     }
 }
 
+/// One of twenty is a NET of the whole house.
 fn any_posting(rng: &mut Prng, accounts: u64) -> Posting {
+    if rng.percent(5) {
+        return HOUSE_NET;
+    }
     let kind = rng.below(4) as u8;
     let a = rng.below(accounts) as u8;
     let b = (u64::from(a) + rng.within(1, accounts - 1)) % accounts;

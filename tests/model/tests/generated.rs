@@ -1,4 +1,4 @@
-// Holds: what the generators reach: each word of a set, the last posting, offers past it, numbers not offered.
+// Holds: what the generators reach: each word of a set, the last posting, offers past it, numbers not offered, NET 255.
 // Rests on: the model.
 
 use model::gen::{legal_start, mix_for, next_call, random_mix, random_run, Mix, LEADS, TASTES};
@@ -45,21 +45,130 @@ impl Reached {
     }
 }
 
+/// The run of a random file, if it has one with an accepted start.
+fn any_run(rng: &mut Prng) -> Option<Run> {
+    let run = decode(&any_file(rng)).ok()?;
+    let answer = Board::start(run.n.into(), run.f.into(), run.matrix).1;
+    answer.is_ok().then_some(run)
+}
+
 #[test]
 fn files_reach_every_word() {
     let mut rng = Prng::new(41);
     let mut reached = Reached::default();
     for _ in 0..2500 {
-        let file = any_file(&mut rng);
-        let run = decode(&file).ok();
-        let started = run.filter(|run| {
-            Board::start(run.n.into(), run.f.into(), run.matrix)
-                .1
-                .is_ok()
-        });
-        started.iter().for_each(|run| reached.note(run));
+        let run = any_run(&mut rng);
+        run.iter().for_each(|run| reached.note(run));
     }
     reached.check();
+}
+
+#[test]
+fn a_seed_gives_one_file() {
+    for seed in 0..100 {
+        let file = any_file(&mut Prng::new(seed));
+        assert_eq!(file, any_file(&mut Prng::new(seed)), "{seed}");
+    }
+}
+
+/// Which misuse of 255, or number close to a mark or an account, an offer shows.
+fn misuse(kind: u64, a: u64, b: u64, amount: u64) -> Option<usize> {
+    match (kind, a, b) {
+        (3, 255, 0..16) => Some(0),
+        (3, 0..16, 255) => Some(1),
+        (3, 255, 255) if amount != 0 => Some(2),
+        (1, 255, 255) => Some(3),
+        (2, 255, 255) => Some(4),
+        (0, 255, 0..16) => Some(5),
+        (0, 0..16, 255) => Some(6),
+        (3, 254, 254) => Some(7),
+        (3, 16, 16) => Some(8),
+        _ => None,
+    }
+}
+
+/// Offers by what they are: all, NETs of the whole house, such that were accepted, and misuses refused with 9.
+#[derive(Default)]
+struct Offers {
+    all: usize,
+    house: usize,
+    accepted: usize,
+    misused: [usize; 9],
+}
+
+impl Offers {
+    fn note(&mut self, call: &Call, answer: Result<Answer, Refusal>) {
+        let &Call::Offer {
+            kind, a, b, amount, ..
+        } = call
+        else {
+            return;
+        };
+        self.all += 1;
+        if (kind, a, b, amount) == (3, 255, 255, 0) {
+            assert_ne!(answer, Err(Refusal::BadField));
+            self.house += 1;
+            self.accepted += usize::from(answer.is_ok());
+        }
+        if let Some(k) = misuse(kind, a, b, amount) {
+            let number = answer.err().map(Refusal::number);
+            assert!(matches!(number, Some(7..=9)), "{call:?}");
+            self.misused[k] += usize::from(number == Some(9));
+        }
+    }
+}
+
+/// One offer of twenty nets the whole house, less those that are changed at random, and each misuse is rare.
+#[test]
+fn files_net_the_whole_house() {
+    let mut rng = Prng::new(46);
+    let mut offers = Offers::default();
+    for run in (0..2500).filter_map(|_| any_run(&mut rng)) {
+        let mut board = Board::start(run.n.into(), run.f.into(), run.matrix).0;
+        for call in &run.calls {
+            let answer = board.apply_on_sound(call);
+            offers.note(call, answer);
+        }
+    }
+    let Offers {
+        all,
+        house,
+        accepted,
+        misused,
+    } = offers;
+    let in_thousand = 1000 * house / all;
+    assert!((40..=55).contains(&in_thousand), "{house} of {all}");
+    assert!(accepted * 10 > house * 8, "{accepted} of {house}");
+    assert!(misused.iter().all(|&m| m > 20), "{misused:?}");
+    assert!(misused.iter().sum::<usize>() * 20 < all, "{misused:?}");
+}
+
+/// Wide offers that are the NET of the whole house in their low bits alone are drawn, and refused.
+#[test]
+fn wide_calls_resemble_the_whole_house() {
+    let mut rng = Prng::new(47);
+    let board = Board::start(3, 1, FIXED_PAIRS).0;
+    let mut drawn = 0;
+    for _ in 0..20_000 {
+        let mix = Mix {
+            odd: 50,
+            wide: true,
+            ..random_mix(&mut rng)
+        };
+        let call = next_call(&mut rng, &board, &mix);
+        let Call::Offer {
+            kind, a, b, amount, ..
+        } = call
+        else {
+            continue;
+        };
+        let low = (kind as u8, a as u8, b as u8, amount as u32);
+        if low == (3, 255, 255, 0) && (kind, a, b, amount) != (3, 255, 255, 0) {
+            drawn += 1;
+            assert!(board.clone().apply_on_sound(&call).is_err(), "{call:?}");
+        }
+    }
+    assert!(drawn > 50, "{drawn}");
 }
 
 #[test]
@@ -137,7 +246,7 @@ fn calls_name_postings_not_offered() {
 #[test]
 fn scrambles_reach_every_word() {
     let mut rng = Prng::new(45);
-    let (mut pooled, mut recorded, mut full) = (Set::EMPTY, Set::EMPTY, 0);
+    let (mut pooled, mut recorded, mut full, mut housed) = (Set::EMPTY, Set::EMPTY, 0, 0);
     for _ in 0..150 {
         let (n, f, matrix) = legal_start(&mut rng);
         let mut board = Board::start(n.into(), f.into(), matrix).0;
@@ -146,8 +255,11 @@ fn scrambles_reach_every_word() {
             let call = next_call(&mut rng, &board, &mix);
             let _ = board.apply_on_sound(&call);
         }
+        let offered = board.postings.len();
         scramble(&mut rng, &mut board, 60);
         assert!(board.is_sound());
+        let (old, new) = board.postings.split_at(offered);
+        housed += usize::from(!old.iter().any(nets_house) && new.iter().any(nets_house));
         pooled |= board.pool;
         for site in &board.sites {
             recorded |= of(site.record.iter().map(|&m| m.into()));
@@ -157,5 +269,5 @@ fn scrambles_reach_every_word() {
     for set in [pooled, recorded] {
         assert!(set.words.iter().all(|&word| word != 0), "{set:x?}");
     }
-    assert!(full > 10, "{full}");
+    assert!(full > 10 && housed > 10, "{full} {housed}");
 }

@@ -40,6 +40,7 @@ fn m3_m4_conflicts() {
     assert!(!both(trade, posting(TRADE, 1, 2, 7)));
     assert!(both(posting(RATE, 4, 4, 1), posting(RATE, 4, 4, 2)));
     assert!(!both(posting(NET, 4, 4, 0), posting(NET, 4, 4, 0)));
+    assert!(both(posting(NET, 255, 255, 0), posting(CALL, 7, 7, 0)));
 }
 
 #[test]

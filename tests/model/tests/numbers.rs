@@ -3,7 +3,7 @@
 
 mod common;
 
-use common::{rich, start, DRAIN};
+use common::{rich, start, DRAIN, MISUSES};
 use model::gen::{legal_start, mix_for, next_call, random_mix};
 use model::meaning::{differs, write};
 use model::numbers::*;
@@ -135,6 +135,25 @@ fn rows_that_are_no_board() {
         assert_eq!(with(third(3, part), 4), Some(Cause::NotOffered));
     }
     assert_eq!(with(NUMBERS, 255), None);
+}
+
+/// 255 fits the width of an account; in a row too it is sound in a NET of the whole house alone.
+#[test]
+fn the_mark_of_every_account_in_a_row() {
+    let with = |kind: u8, a: u8, b: u8, amount: u32| {
+        let mut row = row_of(&rich());
+        let fields = [kind.into(), a.into(), b.into(), amount.into()];
+        row[posting(2, OWNER + 1)..=posting(2, AMOUNT)].copy_from_slice(&fields);
+        row
+    };
+    let row = with(3, 255, 255, 0);
+    let board = read_sound(&row).unwrap();
+    assert!(nets_house(&board.postings[2]));
+    assert_eq!(row_of(&board), row);
+    for (kind, a, b, amount) in MISUSES {
+        let answer = read_sound(&with(kind, a, b, amount));
+        assert_eq!(answer, Err(Cause::Fields), "{kind} {a} {b} {amount}");
+    }
 }
 
 /// Each cause once more, in a row with one number changed.

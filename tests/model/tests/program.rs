@@ -1,6 +1,9 @@
 // Holds: the program's text byte for byte, the file's marks and bounds, and runs judged at each event.
-// Rests on: the model.
+// Rests on: the model, common.
 
+mod common;
+
+use common::MISUSES;
 use model::gen::{legal_start, mix_for, random_run};
 use model::malform::{any_file, malformed_file, refused_file, sound_file, FLAWS};
 use model::prng::Prng;
@@ -100,6 +103,30 @@ fn the_last_posting_in_a_file() {
         "Q no",
     ];
     assert_eq!(lines[256..], wanted);
+}
+
+/// Account 255 and the cut byte 255 have nothing to do with each other: a NET of the whole house may be cut.
+#[test]
+fn the_whole_house_in_a_file() {
+    let house = |cut| [1, 2, 3, 255, 255, 0, 0, 0, 0, cut];
+    let mut events = vec![OFFER, house(255), house(4)];
+    events.extend(MISUSES.map(|(kind, a, b, amount)| {
+        let [w, x, y, z] = amount.to_be_bytes();
+        [1, 1, kind, a, b, w, x, y, z, 255]
+    }));
+    events.extend([house(0), [2, 0, 1, 2, 0, 0, 0, 0, 0, 255], house(255)]);
+    let text = run(&file(&events));
+    let answers: Vec<&str> = text
+        .lines()
+        .filter_map(|line| line.strip_prefix("E ")?.split_once(' '))
+        .map(|(_, answer)| answer)
+        .collect();
+    let (before, rest) = answers.split_at(3);
+    let (misused, after) = rest.split_at(MISUSES.len());
+    assert_eq!(before, ["ok", "ok", "no 15"]);
+    assert!(misused.iter().all(|&answer| answer == "no 9"), "{text}");
+    assert_eq!(after, ["ok", "ok", "no 8"]);
+    assert!(text.ends_with("S 0 up\nS 1 up\nS 2 down\nL\nQ no\n"));
 }
 
 #[test]

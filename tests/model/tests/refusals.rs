@@ -3,7 +3,7 @@
 
 mod common;
 
-use common::{low, no, receive, start};
+use common::{low, no, receive, start, MISUSES};
 use model::*;
 
 #[test]
@@ -75,6 +75,56 @@ fn fields() {
             let mut board = start(3, 1);
             assert_eq!(no(board.offer(2, kind, a, b, amount, None)), number);
         }
+    }
+}
+
+/// 255 is allowed in both accounts of a NET with amount 0 and nowhere else; no wider number is taken for it.
+#[test]
+fn the_mark_of_every_account() {
+    let mut board = start(3, 1);
+    assert!(fields_ok(3, 255, 255, 0));
+    assert_eq!(board.offer(2, 3, 255, 255, 0, None), Ok(0));
+    assert_eq!(
+        board.postings,
+        [Posting {
+            owner: 2,
+            ..HOUSE_NET
+        }]
+    );
+    assert!(board.is_sound());
+    let before = board.clone();
+    let narrow =
+        MISUSES.map(|(kind, a, b, amount)| (kind.into(), a.into(), b.into(), amount.into()));
+    let wide = [
+        (3, 511, 511, 0),
+        (3, 255, 511, 0),
+        (3, 255 + (1 << 32), 255 + (1 << 32), 0),
+        (3, u64::MAX, u64::MAX, 0),
+        (3, 255, 255, 1 << 32),
+        (259, 255, 255, 0),
+    ];
+    for (kind, a, b, amount) in narrow.into_iter().chain(wide) {
+        assert!(!fields_ok(kind, a, b, amount), "{kind} {a} {b} {amount}");
+        assert_eq!(no(board.offer(0, kind, a, b, amount, None)), 9);
+        assert_eq!(no(board.offer(0, kind, a, b, amount, Some(9))), 9);
+        assert_eq!(no(board.offer(3, kind, a, b, amount, None)), 7);
+    }
+    assert_eq!(board, before);
+}
+
+/// Every pair of bytes as accounts, for each kind.
+#[test]
+fn all_accounts() {
+    for k in 0..4 << 16 {
+        let (kind, a, b) = (k >> 16, k >> 8 & 255, k & 255);
+        let inside = a < 16 && b < 16 && (a == b) == (kind != 0);
+        let house = (kind, a, b) == (3, 255, 255);
+        let amount = u64::from(kind == 0);
+        assert_eq!(
+            fields_ok(kind, a, b, amount),
+            inside || house,
+            "{kind} {a} {b}"
+        );
     }
 }
 

@@ -3,7 +3,7 @@
 
 mod common;
 
-use common::{no, rich, DRAIN};
+use common::{no, rich, DRAIN, MISUSES};
 use model::set::one;
 use model::*;
 
@@ -134,6 +134,37 @@ fn one_per_cause() {
             change(&mut board);
             refuses_all(name, board);
         }
+    }
+}
+
+/// The board handed in with each of its postings replaced, also by a NET of the whole house, which is no cause.
+#[test]
+fn the_mark_of_every_account() {
+    for m in 0..3 {
+        let owner = rich().postings[m].owner;
+        let with = |kind, a, b, amount| {
+            let mut board = rich();
+            board.postings[m] = Posting {
+                owner,
+                kind,
+                a,
+                b,
+                amount,
+            };
+            board
+        };
+        for (kind, a, b, amount) in MISUSES {
+            let name = format!("{m} is {kind} {a} {b} {amount}");
+            let board = with(kind, a, b, amount);
+            assert_eq!(board.cause(), Some(Cause::Fields), "{name}");
+            refuses_all(&name, board);
+        }
+        let mut board = with(3, 255, 255, 0);
+        assert_eq!(board.cause(), None);
+        assert_eq!(no(board.clone().crash(0)), 0);
+        assert_eq!(no(board.books(0, &mut [0; FIGURES])), 0);
+        assert_eq!(no(board.drain(DRAIN)), 0);
+        assert!(board.is_sound());
     }
 }
 

@@ -3,7 +3,7 @@
 
 use crate::carried::{carried_file, carried_run, offered_file};
 use crate::damage;
-use crate::full::{full_file, trades_file};
+use crate::full::{full_file, netted_file, trades_file};
 use model::gen::{legal_matrix, mix_for, random_run, Mix};
 use model::malform::{malformed_file, refused_file, FLAWS};
 use model::prng::Prng;
@@ -42,7 +42,7 @@ pub(crate) const fn sort(
     Sort { name, count, make }
 }
 
-pub static SORTS: [Sort; 17] = [
+pub static SORTS: [Sort; 18] = [
     sort("mixed runs", 14 * 120, mixed),
     sort("runs with faults", 14 * 60, faulty),
     sort("odd arguments", 14 * 40, odd),
@@ -51,6 +51,7 @@ pub static SORTS: [Sort; 17] = [
     sort("long runs", 14 * 3, long),
     sort("offers alone", 14 * COUNTS.len(), offers),
     sort("full records", 5, |_, k| full_file(3 + k as u8)),
+    sort("netted at the end", 5, |_, k| netted_file(3 + k as u8)),
     sort("longest drains", 4, |_, f| trades_file(7, f as u8)),
     sort("refused starts", 400, refused),
     sort("malformed", 8 * 80, malformed),

@@ -1,18 +1,21 @@
 // Holds: run files with all the postings that a board holds: in the record of every site at their end, or left to the longest drain there is.
 // Rests on: the model.
 
-use model::posting::{CALL, RATE, TRADE};
+use model::posting::{CALL, EVERY_ACCOUNT, NET, RATE, TRADE};
 use model::runfile::{encode, MAX_EVENTS};
 use model::{Board, Call, Run, FIRST, FIXED_PAIRS, POSTINGS, SECOND, THIRD};
 
 /// The account that all postings share, so that the last, a CALL of it, conflicts with all others.
 const SHARED: u64 = 1;
 
-fn offer(kind: u8, b: u64, amount: u64) -> Call {
+/// The last posting of a full board.
+const LAST: u64 = POSTINGS as u64 - 1;
+
+fn offer(kind: u8, a: u64, b: u64, amount: u64) -> Call {
     Call::Offer {
         site: 0,
         kind: kind.into(),
-        a: SHARED,
+        a,
         b,
         amount,
         cut: None,
@@ -20,11 +23,20 @@ fn offer(kind: u8, b: u64, amount: u64) -> Call {
 }
 
 /// A RATE, TRADEs with all other accounts in turn, and last a CALL.
-fn posting(m: u64) -> Call {
+fn shared(m: u64) -> Call {
     match m {
-        0 => offer(RATE, SHARED, 250),
-        _ if m + 1 == POSTINGS as u64 => offer(CALL, SHARED, 0),
-        _ => offer(TRADE, 2 + m % 14, 100 * m),
+        0 => offer(RATE, SHARED, SHARED, 250),
+        LAST => offer(CALL, SHARED, SHARED, 0),
+        _ => offer(TRADE, SHARED, 2 + m % 14, 100 * m),
+    }
+}
+
+/// TRADEs of all accounts, and last a NET of the whole house.
+fn netted(m: u64) -> Call {
+    let every = EVERY_ACCOUNT.into();
+    match m {
+        LAST => offer(NET, every, every, 0),
+        _ => offer(TRADE, m % 16, (m + 5) % 16, 100 + m),
     }
 }
 
@@ -46,37 +58,45 @@ fn voted(m: u64, quorum: u64, steps: u64) -> Vec<Call> {
     firsts.chain(seconds).collect()
 }
 
-/// Site 0 steps every posting before the CALL is offered, and so holds them: the entry of the CALL carries all others,
+/// Site 0 steps every posting before the last is offered, and so holds them: the entry of the last carries all others,
 /// and whoever reads it delivers all there are.
-fn carried_by_one(n: u8, f: u8) -> Vec<Call> {
+fn carried_by_last(n: u8, f: u8, posting: fn(u64) -> Call) -> Vec<Call> {
     let quorum = u64::from(n - f);
-    let last = POSTINGS as u64 - 1;
     let mut calls = Vec::new();
-    for m in 0..last {
+    for m in 0..LAST {
         calls.push(posting(m));
         calls.extend(voted(m, quorum, 1));
     }
-    calls.push(posting(last));
-    calls.extend(voted(last, quorum, quorum));
-    calls.extend((0..quorum).map(|from| receipt(THIRD, last, from, 0)));
-    calls.push(Call::Order { posting: last });
+    calls.push(posting(LAST));
+    calls.extend(voted(LAST, quorum, quorum));
+    calls.extend((0..quorum).map(|from| receipt(THIRD, LAST, from, 0)));
+    calls.push(Call::Order { posting: LAST });
     calls.extend((0..n.into()).map(|site| Call::Read { site, cut: None }));
     calls
 }
 
 /// The file; what follows the last read is refused, and printed with the longest lines.
-pub fn full_file(n: u8) -> Vec<u8> {
+fn of_postings(n: u8, posting: fn(u64) -> Call) -> Vec<u8> {
     let f = (n - 1) / 2;
     let (mut board, _) = Board::start(n.into(), f.into(), FIXED_PAIRS);
-    let mut calls = carried_by_one(n, f);
+    let mut calls = carried_by_last(n, f, posting);
     for call in &calls {
         assert!(board.apply_on_sound(call).is_ok(), "{call:?}");
     }
     let full = |site: &model::Site| site.record.len() == POSTINGS;
     assert!(board.sites[..usize::from(n)].iter().all(full));
-    let again = posting(POSTINGS as u64 - 1);
-    calls.resize(MAX_EVENTS, again);
+    calls.resize(MAX_EVENTS, posting(LAST));
     file(n, f, calls)
+}
+
+/// A CALL's entry carries all others.
+pub fn full_file(n: u8) -> Vec<u8> {
+    of_postings(n, shared)
+}
+
+/// The entry of a NET of the whole house carries all others: TRADEs, two of which need not have an account in common.
+pub fn netted_file(n: u8) -> Vec<u8> {
+    of_postings(n, netted)
 }
 
 /// Offers of TRADEs alone, by each site in turn: none conflict, so that each takes as many events as a posting can, and

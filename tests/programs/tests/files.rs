@@ -2,10 +2,11 @@
 // Rests on: programs, the model.
 
 use model::prng::Prng;
-use model::{decode, Call, FIGURES, MAX_EVENTS, POSTINGS, SITES};
+use model::set::below;
+use model::{decode, nets_house, Call, FIGURES, MAX_EVENTS, POSTINGS, SITES};
 use programs::carried::carried_run;
 use programs::files::{numbers, SORTS, STARTS};
-use programs::full::{full_file, trades_file};
+use programs::full::{full_file, netted_file, trades_file};
 use programs::programs::MODEL;
 use std::collections::{BTreeMap, BTreeSet};
 use std::sync::OnceLock;
@@ -125,6 +126,43 @@ fn full_records_make_the_longest_text() {
     let longest = files().iter().map(|file| model::run(file).len()).max();
     assert_eq!(longest, Some(text.len()));
     assert!(text.len() > 50_000, "{}", text.len());
+}
+
+/// Of the postings offered at random about one in twenty nets the whole house, and many stand in records before any
+/// drain.
+#[test]
+fn house_nets_come_often() {
+    let drawn = ["mixed runs", "carried to the end", "offers alone"];
+    let mixes = SORTS.iter().filter(|sort| drawn.contains(&sort.name));
+    let (mut offered, mut nets, mut boards) = (0, 0, 0);
+    for sort in mixes {
+        for k in 0..sort.count {
+            let file = sort.file(&mut numbers(SEED, sort, k), k);
+            let board = played(&decode(&file).unwrap()).unwrap();
+            let nets_at = |m: &&u8| nets_house(&board.postings[usize::from(**m)]);
+            let recorded = |site: &model::Site| site.record.iter().filter(nets_at).count();
+            offered += board.postings.len();
+            nets += board.postings.iter().filter(|p| nets_house(p)).count();
+            boards += usize::from(board.sites.iter().any(|site| recorded(site) > 0));
+        }
+    }
+    assert!(
+        (4 * offered..=6 * offered).contains(&(100 * nets)),
+        "{nets} of {offered}"
+    );
+    assert!(boards >= 100, "{boards}");
+}
+
+/// All four words of its set are full but for its own number.
+#[test]
+fn a_house_net_carries_all_others() {
+    let last = POSTINGS - 1;
+    for n in 3..=7 {
+        let board = played(&decode(&netted_file(n)).unwrap()).unwrap();
+        assert_eq!(board.postings.iter().position(nets_house), Some(last));
+        assert_eq!(board.entries[last], below(last));
+        assert_eq!(board.log, [last as u8]);
+    }
 }
 
 /// They need every event of the limit that is proved to be enough.

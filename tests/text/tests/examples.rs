@@ -6,7 +6,7 @@ use std::fs;
 use std::path::PathBuf;
 use text::{assemble, disassemble, played, statement};
 
-const NAMES: [&str; 5] = ["crash", "cut", "full-day", "whole-case", "year"];
+const NAMES: [&str; 6] = ["crash", "cut", "december", "full-day", "whole-case", "year"];
 
 fn folder() -> PathBuf {
     PathBuf::from(env!("CARGO_MANIFEST_DIR")).join("../../examples")
@@ -75,6 +75,26 @@ fn year() {
         let place = |m: u8| list.iter().position(|x| *x == m);
         assert!(place(8) < place(7) && place(8).is_some());
     }
+}
+
+/// The NET of the whole house conflicts with every trade and call, and stands after them in three different records;
+/// the entry by which it comes carries a posting that a site lacks. All is settled.
+#[test]
+fn december() {
+    let (board, refused) = board("december");
+    assert_eq!(refused, 0);
+    assert!(model::nets_house(&board.postings[4]));
+    assert!(model::set::has(board.entries[4], 1));
+    let records = board.sites.clone().map(|site| site.record);
+    let ends: Vec<_> = records[..3].iter().map(|record| record.last()).collect();
+    assert_eq!(ends, [Some(&4); 3]);
+    assert!(records[0] != records[1] && records[1] != records[2] && records[2] != records[0]);
+    let netted = text_of("december", "statement.out");
+    let accounts = netted.lines().filter(|line| line.starts_with("account"));
+    assert_eq!(accounts.clone().count(), 18);
+    assert!(accounts.clone().all(|line| line.contains(" position 0 ")));
+    let settled = accounts.map(|line| line.rsplit(' ').next().unwrap().parse::<i64>());
+    assert_eq!(settled.sum::<Result<i64, _>>(), Ok(0));
 }
 
 /// One entry carries all but its own posting, and one offer is too many.

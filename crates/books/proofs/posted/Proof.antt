@@ -1,6 +1,8 @@
 -- `books::posted` meets its contract: after i lines the sheet is that of the first i posting numbers.
 -- Assumes nothing.
 use mathlib.Core.Path.{_≡_, sym, ap, _∙_}
+use mathlib.Core.Logic.{⊎-elim}
+use mathlib.Core.Bool.{true, false}
 use mathlib.Core.List.{List}
 use Prim.Native.Nat.{ℕ, _+_, _≤_, _<_, _-_}
 use native.Mathlib.Omega.{arith}
@@ -10,14 +12,15 @@ use Rattle.sets.specs.Sets.{capacity}
 use Rattle.posting.specs.declared.Posting.{Posting}
 use Rattle.posting.specs.declared.Table.{Table}
 use Rattle.posting.specs.declared.Record.{Record}
-use Rattle.posting.specs.Kinds.{accounts}
+use Rattle.posting.specs.Kinds.{accounts, netsAll}
 use Rattle.posting.specs.Records.{numbersOf}
 use Rattle.posting.specs.Conflicts.{noPosting}
+use Rattle.books.specs.Effect.{onNet}
 use Rattle.books.specs.Books.{Books, post, books, figuresOn, sheetOf}
 use Rattle.books.specs.declared.Figures.{Figures}
 use Rattle.books.specs.declared.Sheet.{Sheet}
-use Rattle.books.specs.Bounds.{Postable}
-use Rattle.books.proofs.Sheets.{Line, line, room-a, room-b, sheet-is, number-within, line-begins, line-posted}
+use Rattle.books.specs.Bounds.{Roomy, Opening, Postable}
+use Rattle.books.proofs.Sheets.{Line, line, line-accounts, room-a, room-b, sheet-is, number-within, line-begins, line-posted, line-roomy, line-nets-all}
 use Rattle.books.proofs.posted.Statement.{statement}
 use Rattle.books.proofs.posted.Tie as tie
 
@@ -40,11 +43,21 @@ module _ (c : tie.After-wide Inv-loop μ-loop) where
   abbrev postable : Postable table delivered
   postable = c .before .before .before .before .pre .0
 
+  abbrev opens : Opening opening
+  opens = c .before .before .before .before .pre .1
+
   abbrev i : ℕ
   i = c .before .before .before .loop .i
 
+  abbrev sheet : Sheet
+  sheet = c .before .before .before .loop .sheet
+
   abbrev posting : Posting
   posting = getD (table .rows) (c .wide .result) noPosting
+
+  -- the books of the first n lines
+  abbrev books-to : ℕ → Books
+  books-to n = books opening table (take n (delivered .numbers))
 
   here : i < delivered .count
   here = c .before .before .loop-test .taken
@@ -52,26 +65,37 @@ module _ (c : tie.After-wide Inv-loop μ-loop) where
   long : length (delivered .numbers) ≡ capacity
   long = search needs
 
+  is : sheet ≡ sheetOf (books-to i)
+  is = c .before .before .before .loop .inv .1
+
   within : c .wide .result < capacity
-  within = number-within table delivered postable opening (c .before .before .before .before .pre .1) long i here _ (c .wide .ensures)
+  within = number-within table delivered postable opening opens long i here _ (c .wide .ensures)
 
-  next : post posting (books opening table (take i (delivered .numbers))) ≡ books opening table (take (i + 1) (delivered .numbers))
-  next = line-posted table delivered postable opening (c .before .before .before .before .pre .1) long i here _ (c .wide .ensures)
+  begins : (a : ℕ) → netsAll posting ≡ false → a ≡ posting .a → Line i (books-to i) posting (sheet .accounts) a
+  begins a named ea = line-begins table delivered postable opening opens long i here _ (c .wide .ensures) _ a named (ap (λ (x : Sheet). x .accounts) is) ea
 
+  next : post posting (books-to i) ≡ books-to (i + 1)
+  next = line-posted table delivered postable opening opens long i here _ (c .wide .ensures)
+
+  roomy : Roomy (figuresOn sheet)
+  roomy = line-roomy table delivered postable opening opens long i here _ (c .wide .ensures) sheet is
+
+  nets-all : netsAll posting ≡ true → sheetOf (λ k. onNet (figuresOn sheet k)) ≡ sheetOf (books-to (i + 1))
+  nets-all = line-nets-all table delivered postable opening opens long i here _ (c .wide .ensures) sheet is
+
+-- a line that names its accounts
 module _ (c : tie.After-wide2 Inv-loop μ-loop) where
   abbrev at-wide : tie.After-wide Inv-loop μ-loop
-  at-wide = c .before .before
+  at-wide = c .before .before .before .before
 
-  start : Line (i at-wide) (books (opening at-wide) (table at-wide) (take (i at-wide) (delivered at-wide .numbers))) (posting at-wide) (at-wide .before .before .before .loop .sheet .accounts) (c .wide2 .result)
-  start =
-      line-begins (table at-wide) (delivered at-wide) (postable at-wide) (opening at-wide) (at-wide .before .before .before .before .pre .1) (long at-wide) (i at-wide) (here at-wide) _ (at-wide .wide .ensures) _ _
-      (ap (λ (x : Sheet). x .accounts) (at-wide .before .before .before .loop .inv .1)) (c .wide2 .ensures)
+  start : Line (i at-wide) (books-to at-wide (i at-wide)) (posting at-wide) (sheet at-wide .accounts) (c .wide2 .result)
+  start = begins at-wide _ (sym (c .before .before .net-of-all .ensures) ∙ c .before .if1 .left) (c .wide2 .ensures)
 
   a-within : c .wide2 .result < accounts
-  a-within = omega (arith, start .ok .first, c .wide2 .ensures)
+  a-within = omega (arith, line-accounts start .0, c .wide2 .ensures)
 
 b-within : (c : tie.After-wide3 Inv-loop μ-loop) → c .wide3 .result < accounts
-b-within c = omega (arith, start (c .before .before .before) .ok .second, c .wide3 .ensures)
+b-within c = omega (arith, line-accounts (start (c .before .before .before)) .1, c .wide3 .ensures)
 
 loop-holds : tie.Need-loop-holds Inv-loop μ-loop
 unfolding books
@@ -91,6 +115,12 @@ mul-p c = record { fits = omega (arith, within c) }
 
 element-copy-out-p : tie.Need-element-copy-out-p Inv-loop μ-loop
 element-copy-out-p c = within c
+
+net-of-all-requires : tie.Need-net-of-all-requires Inv-loop μ-loop
+net-of-all-requires c κs = search needs
+
+net-all-requires : tie.Need-net-all-requires Inv-loop μ-loop
+net-all-requires c κs = roomy (c .before .before .before)
 
 wide-requires-2 : tie.Need-wide-requires-2 Inv-loop μ-loop
 wide-requires-2 c κs = search needs
@@ -139,12 +169,15 @@ loop-less c = search needs
 
 loop-again : tie.Need-loop-again Inv-loop μ-loop
 loop-again c =
-    let w = c .before .before .before .before .before in
-    let a = c .before .before .before .change in
-    let b = c .before .before .wide3 in
-    let l = line (start w) (a .result) (b .result) (a .ensures) (b .ensures) (c .change-b .result) (c .change-b .ensures) in (
-      omega (arith, w .before .before .before .before .loop-test .taken),
-      ap (λ (x : List Figures). record { accounts = x }) l ∙ ap sheetOf (next (at-wide w)),
+    let at-wide = c .before .before .before in (
+      omega (arith, here at-wide),
+      ⊎-elim
+          (λ w. w .2 ∙ w .1 .ensures ∙ nets-all at-wide (sym (c .before .net-of-all .ensures) ∙ w .0 .taken))
+          (λ w.
+          let begun : tie.After-wide2 Inv-loop μ-loop = record { before = record { before = c .before; if1 = w .0 }; wide2 = w .1 } in
+          let l = line (start begun) (w .3 .result) (w .4 .result) (w .3 .ensures) (w .4 .ensures) (w .6 .result) (w .6 .ensures) in
+          w .7 ∙ ap (λ (x : List Figures). record { accounts = x }) l ∙ ap sheetOf (next at-wide))
+          (c .if1 .came),
     )
 
 returns : tie.Need-returns Inv-loop μ-loop
@@ -165,6 +198,8 @@ posted-spec =
     wide-requires
     mul-p
     element-copy-out-p
+    net-of-all-requires
+    net-all-requires
     wide-requires-2
     mul-s
     element-copy-out-s

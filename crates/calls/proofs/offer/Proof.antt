@@ -1,10 +1,12 @@
 -- `offer` meets its contract.
 -- Assumes nothing.
 use Prim.Native.Nat.{_<_}
+use mathlib.Core.Path.{_≡_}
+use mathlib.Core.Bool.{true}
 use native.Mathlib.Omega.{arith}
 use lib.ListN.{getD}
 use Rattle.sets.specs.Sets.{capacity}
-use Rattle.posting.specs.Kinds.{kinds, accounts}
+use Rattle.posting.specs.Kinds.{kinds, accountsOk}
 use Rattle.site.specs.Sites.{sites}
 use Rattle.arrays.specs.Layout.{countAt}
 use Rattle.arrays.specs.Arrays.{arrays}
@@ -18,13 +20,13 @@ use Rattle.calls.proofs.offer.Tie as tie
 below : (c : tie.Else1) → c .before .before .before .args .site < sites
 below c = site-below _ _ _ _ (c .before .before .before .pre) (c .before .site-refusal .ensures) (c .if1 .left)
 
--- the posting has a number, a kind and two accounts
+-- the posting has a number, a kind and its accounts
 room : (c : tie.Else2) → getD (c .before .before .before .before .before .before .args .counts .now) countAt 0 < capacity
 room c = offer-room _ _ _ (c .before .offer-refusal .ensures) (c .if2 .left)
 
 fields : (c : tie.Else2) →
     let a = c .before .before .before .before .before .before .args in
-    (a .kind < kinds) × (a .account < accounts) × (a .other < accounts)
+    (a .kind < kinds) × (accountsOk (a .kind) (a .account) (a .other) ≡ true)
 fields c =
     offer-fields _ (getD (c .before .before .before .before .before .before .args .counts .now) countAt 0) _
     (c .before .offer-refusal .ensures) (c .if2 .left)
@@ -101,7 +103,7 @@ enter-row-requires c κs = room (c .before .before .before .before .before)
 enter-requires : tie.Need-enter-requires
 enter-requires c κs =
     let taken = c .before .before .before .before .before .before .before in
-    (room taken, fields taken .0, fields taken .1, fields taken .2)
+    (room taken, fields taken .0, fields taken .1)
 
 send-requires : tie.Need-send-requires
 send-requires c κs =

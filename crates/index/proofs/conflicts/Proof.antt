@@ -4,16 +4,17 @@ use Prim.Native.Nat.{_≤_, _-_}
 use mathlib.Core.Path.{_≡_, _∙_}
 use native.Mathlib.Omega.{arith}
 use native.Mathlib.Numerals.{add-one}
+use Rattle.posting.specs.Kinds.{kinds}
 use Rattle.index.specs.Index.{kindsTo, conflictsIn}
 use borrow.Author.Needs.{needs}
 use Rattle.index.proofs.conflicts.Statement.{statement}
 use Rattle.index.proofs.conflicts.Tie as tie
 
 abbrev Inv-loop : tie.InvT-loop
-Inv-loop words bytes matrix m kind a b s₀ k₀ s k = (k ≤ 4) × (s ≡ kindsTo words matrix kind a b k)
+Inv-loop words bytes matrix m kind a b all first second s₀ k₀ s k = (k ≤ kinds) × (s ≡ kindsTo words matrix kind first second k)
 
 abbrev μ-loop : tie.MeasureT-loop
-μ-loop words bytes matrix m kind a b s₀ k₀ s k = 4 - k
+μ-loop words bytes matrix m kind a b all first second s₀ k₀ s k = kinds - k
 
 add-kind : tie.Need-add-kind Inv-loop μ-loop
 add-kind c = search needs
@@ -32,6 +33,15 @@ add-b c = search needs
 
 element-copy-out-b : tie.Need-element-copy-out-b Inv-loop μ-loop
 element-copy-out-b c = search needs
+
+net-of-all-requires : tie.Need-net-of-all-requires Inv-loop μ-loop
+net-of-all-requires c κs = search needs
+
+row-for-requires : tie.Need-row-for-requires Inv-loop μ-loop
+row-for-requires c κs = search needs
+
+row-for-requires-2 : tie.Need-row-for-requires-2 Inv-loop μ-loop
+row-for-requires-2 c κs = search needs
 
 empty-requires : tie.Need-empty-requires Inv-loop μ-loop
 empty-requires c κs = search needs
@@ -68,8 +78,10 @@ returns : tie.Need-returns Inv-loop μ-loop
 unfolding conflictsIn
 returns c =
     let at = c .before .before .loop in
-    let last : at .k ≡ 4 = omega arith in
-    c .with .ensures ∙ rw (at .inv .1, last)
+    let rows = c .before .before .before .before in
+    let last : at .k ≡ kinds = omega arith in
+    c .with .ensures
+    ∙ rw (at .inv .1, last, rows .row-for2 .ensures, rows .before .row-for .ensures, rows .before .before .net-of-all .ensures)
 
 pub conflicts-spec : {M : Type 1} → statement M
 conflicts-spec =
@@ -83,6 +95,9 @@ conflicts-spec =
     element-copy-out-a
     add-b
     element-copy-out-b
+    net-of-all-requires
+    row-for-requires
+    row-for-requires-2
     empty-requires
     loop-holds
     matrix-entry-requires

@@ -33,7 +33,7 @@ enter-requires c κs =
     let h = c .before .before .loop-test .taken in
     let ok = c .before .before .before .before .before .pre in
     let fits : m < capacity = omega (arith, ok .count) in
-    (fits, ok .kinds m h, ok .from m h, ok .into m h)
+    (fits, ok .kinds m h, ok .accounts m h)
 
 add-m : tie.Need-add-m Inv-loop μ-loop
 add-m c = search needs

@@ -12,6 +12,27 @@ use model::{Board, Call, Message, Refusal, Set, FIRST, FIXED_PAIRS, SECOND, THIR
 /// The limit of a drain that surely ends quiet.
 pub const DRAIN: u64 = 27_136;
 
+/// Kind, a, b and amount of postings with 255 where it is not allowed, or with a number close to it or to the last
+/// account. All fit a board and a run file.
+pub const MISUSES: [(u8, u8, u8, u32); 16] = [
+    (3, 255, 5, 0),
+    (3, 5, 255, 0),
+    (3, 255, 254, 0),
+    (3, 255, 255, 1),
+    (3, 255, 255, u32::MAX),
+    (1, 255, 255, 0),
+    (1, 255, 255, 250),
+    (2, 255, 255, 0),
+    (0, 255, 1, 9),
+    (0, 1, 255, 9),
+    (0, 255, 255, 9),
+    (4, 255, 255, 0),
+    (255, 255, 255, 0),
+    (3, 254, 254, 0),
+    (3, 16, 16, 0),
+    (3, 128, 128, 0),
+];
+
 /// The set of postings below 64 that a word is.
 pub fn low(word: u64) -> Set {
     let mut set = Set::EMPTY;

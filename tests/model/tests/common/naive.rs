@@ -59,11 +59,12 @@ impl Naive {
     }
 
     fn family(&self, m: u64) -> Set {
-        let [_, kind, a, b, _] = self.postings[m as usize];
+        let posting = &self.postings[m as usize];
         let mut family = Set::from([m]);
-        for (k, &[_, other, c, d, _]) in self.postings.iter().enumerate() {
-            let share = Set::from([a, b]).intersection(&Set::from([c, d])).count() > 0;
-            if share && self.matrix & 1 << (4 * kind + other) != 0 {
+        for (k, other) in self.postings.iter().enumerate() {
+            let shared = &accounts(posting) & &accounts(other);
+            let bit = 4 * posting[1] + other[1];
+            if !shared.is_empty() && self.matrix & 1 << bit != 0 {
                 family.insert(k as u64);
             }
         }
@@ -291,6 +292,14 @@ impl Naive {
             })
             && (0..self.places.len()).all(|s| self.places[s].down != board.is_up(s))
     }
+}
+
+/// The accounts that a posting names, or all sixteen.
+fn accounts(&[_, kind, a, b, _]: &[u64; 5]) -> Set {
+    if [kind, a, b] == [3, 255, 255] {
+        return (0..16).collect();
+    }
+    Set::from([a, b])
 }
 
 fn mask(set: &Set) -> model::Set {
