@@ -14,7 +14,7 @@ use Rattle.sets.proofs.Truth.{test, never, and-left, and-right, not-flips}
 use Rattle.sets.specs.Below.{allBelow}
 use Rattle.sets.proofs.BelowLaws.{all-at}
 use Rattle.posting.specs.declared.Posting.{Posting}
-use Rattle.posting.specs.Kinds.{trade, rate, kinds, netOfAll, accountsOk, fieldsOk, inRow, fixedPair, fixedPairs, allPairs}
+use Rattle.posting.specs.Kinds.{trade, rate, net, kinds, everyAccount, netOfAll, accountsOk, fieldsOk, inRow, fixedPair, fixedPairs, allPairs}
 use Rattle.posting.proofs.KindLaws.{pairs-at}
 use Rattle.posting.specs.Conflicts.{touches, shares}
 use Rattle.posting.proofs.ConflictLaws.{shares-at}
@@ -138,6 +138,21 @@ differs i j = not (eqb (sum (one-way i j)) (sum (other-way i j)))
 entries-right : allPairs (λ i j. Bool·beq (fixedPair i j) (differs i j)) ≡ true
 unfolding allPairs allBelow fixedPair fixedPairs differs effect touches netOfAll change sizeOfCall
 entries-right = refl
+
+-- a NET of every account in place of one of account 1
+abbrev widened : Posting → Posting
+widened p = cond (eqb (p .kind) net) (record { owner = 0; kind = net; a = everyAccount; b = everyAccount; amount = 0 }) p
+
+differs-widened : ℕ → ℕ → Bool
+differs-widened i j =
+    let p = widened (first i) in
+    let q = widened (second j) in
+    not (eqb (sum (effect p 1 (effect q 1 figures))) (sum (effect q 1 (effect p 1 figures))))
+
+-- and so it does where every NET is of every account
+widened-entries-right : allPairs (λ i j. Bool·beq (fixedPair i j) (differs-widened i j)) ≡ true
+unfolding allPairs allBelow fixedPair fixedPairs differs-widened effect touches netOfAll change sizeOfCall
+widened-entries-right = refl
 
 as-said : (b : Bool) → Bool·beq true b ≡ true → b ≡ true
 as-said true e = refl
