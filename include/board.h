@@ -63,7 +63,14 @@ extern "C" {
 
    BOOKS of a record are BOARD_FIGURES numbers, four for each account: of account k the position at 4k, the rate at
    4k + 1, called at 4k + 2, settled at 4k + 3. Position, called and settled are in cents, the rate is per 10,000. In the
-   books of all sites those of site s begin at BOARD_FIGURES times s.
+   books of all sites those of site s begin at BOARD_FIGURES times s. They begin at 0, and each posting of the record
+   changes those of the accounts that it touches:
+
+     TRADE   the position of a rises by the amount, that of b falls by it
+     RATE    the rate becomes the amount
+     CALL    where the position is above zero, called rises by position times rate, divided by 10,000 and rounded up;
+             where it is zero or below, nothing changes
+     NET     settled rises by the position, with its sign, and the position becomes 0
 
    A SET OF POSTINGS is BOARD_WORDS words of 64 bits: posting m is bit m % 64 of word m / 64.
 
@@ -177,8 +184,9 @@ uint8_t board_conflict_set(uint16_t matrix, const uint8_t *rows, size_t rows_len
 
 /* ---- effects and books */
 
-/* Answers the size of position times rate, divided by 10,000 and rounded up: what a CALL adds to called. BOARD_NO_SIZE if
-   position times rate, or its negative, is no int64_t. */
+/* Answers what a CALL adds to called: where the position is above zero, the size of position times rate, divided by 10,000
+   and rounded up; 0 where it is zero or below. BOARD_NO_SIZE if position times rate, or its negative, is no int64_t,
+   whatever the position's sign. */
 uint64_t board_size_of_call(int64_t position, int64_t rate);
 
 /* A posting has its effect on the four figures of one account, the first numbers of `figures`: position, rate, called,

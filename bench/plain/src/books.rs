@@ -23,8 +23,11 @@ fn net(figures: &mut [i64]) {
     figures[POSITION] = 0;
 }
 
-/// The size of the position times the rate, rounded up.
+/// What a call adds: of a position above zero, its product with the rate, rounded up.
 fn called(position: i64, rate: i64) -> i64 {
+    if position <= 0 {
+        return 0;
+    }
     let product = position.unsigned_abs() * rate.unsigned_abs();
     product.div_ceil(WHOLE) as i64
 }

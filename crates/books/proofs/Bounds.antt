@@ -5,7 +5,7 @@ use mathlib.Core.Bool.{Bool, true, false, cond}
 use Prim.Native.Nat.{ℕ, zero, suc, _+_, _*_, _<_, _≤_}
 use native.Mathlib.Nat.{mul-le-mul, mul-le-mul-left}
 use native.Mathlib.Omega.{arith}
-use lib.IntN.{ℤ, pos, natAbs, _+ℤ_, _-ℤ_, _*ℤ_}
+use lib.IntN.{ℤ, pos, negsuc, natAbs, _+ℤ_, _-ℤ_, _*ℤ_}
 use lib.Dec.{eqb}
 use Rattle.posting.specs.declared.Posting.{Posting}
 use Rattle.posting.specs.Kinds.{trade, rate}
@@ -14,15 +14,16 @@ use Rattle.posting.specs.Conflicts.{touches}
 use Rattle.books.specs.declared.Figures.{Figures}
 use Rattle.books.specs.Effect.{sizeOfCall, onTrade, onRate, onCall, onNet, change, effect}
 use Rattle.books.specs.Bounds.{reach, After, Room}
-use Rattle.books.proofs.Effects.{no-kind}
+use Rattle.books.proofs.Effects.{no-kind, call-below-zero, call-at-zero, call-above-zero}
 use Rattle.books.proofs.Signed.{size-sum, size-difference, size-product}
 
 -- ---- one posting
 
--- a call is at most the position
+-- a call is at most the position's size
 pub call-size : (p r : ℤ) → natAbs r ≤ 10_000 → sizeOfCall p r ≤ natAbs p
-unfolding sizeOfCall
-call-size p r h = omega (arith, size-product p r, mul-le-mul-left (natAbs p) h)
+call-size (negsuc n) r h = omega (arith, call-below-zero n r)
+call-size (pos zero) r h = omega (arith, call-at-zero r)
+call-size (pos (suc n)) r h = omega (arith, call-above-zero n r, mul-le-mul-left (suc n) h)
 
 grow : (n : ℕ) → suc n * reach n + reach n ≤ suc (suc n) * reach (suc n)
 grow n = let h : reach n ≤ reach (suc n) = omega arith in omega (arith, mul-le-mul-left (suc (suc n)) h)

@@ -1,11 +1,13 @@
--- Laws of one effect: what is no kind does nothing, a posting changes the accounts that it touches, and no number of any other, and what nets
--- every account nets each. Rests on Effect. Assumes nothing.
-use mathlib.Core.Path.{_≡_, _∙_}
+-- Laws of one effect: what is no kind does nothing, a posting changes the accounts that it touches, and no number of any other, what nets
+-- every account nets each, and a call is of a position above zero. Rests on Effect and Signed. Assumes nothing.
+use mathlib.Core.Path.{_≡_, refl, _∙_}
 use mathlib.Core.Bool.{true, false}
 use mathlib.Core.Logic.{inl, inr}
-use Prim.Native.Nat.{ℕ, _<_, _≤_}
+use Prim.Native.Nat.{ℕ, suc, _+_, _*_, _/_, _<_, _≤_}
 use native.Mathlib.Omega.{arith}
-use borrow.Author.Tests.{ne-eqb}
+use lib.IntN.{ℤ, pos, negsuc, natAbs}
+use lib.Signed.{ltZ}
+use borrow.Author.Tests.{ne-eqb, lt-ltb}
 use Rattle.sets.proofs.Truth.{not-so}
 use Rattle.posting.specs.declared.Posting.{Posting}
 use Rattle.posting.specs.Kinds.{trade, rate, call, net, kinds, accounts, netsAll}
@@ -13,7 +15,8 @@ use Rattle.posting.proofs.KindLaws.{nets-all-net}
 use Rattle.posting.specs.Conflicts.{touches}
 use Rattle.posting.proofs.ConflictLaws.{touches-cases, touches-all}
 use Rattle.books.specs.declared.Figures.{Figures}
-use Rattle.books.specs.Effect.{onNet, change, effect}
+use Rattle.books.specs.Effect.{sizeOfCall, onNet, change, effect}
+use Rattle.books.proofs.Signed.{size-product}
 
 pub no-kind : (kind : ℕ) → kinds ≤ kind → (p : Posting) (k : ℕ) (s : Figures) → change kind p k s ≡ s
 unfolding change
@@ -40,3 +43,18 @@ effect-net-all p k s e h = effect-touched p k s (touches-all p k e h) ∙ rw (ne
 
 pub touches-neither : (p : Posting) (k : ℕ) → netsAll p ≡ false → (k ≡ p .a → ⊥) → (k ≡ p .b → ⊥) → touches p k ≡ false
 touches-neither p k named a b = not-so (touches p k) (λ t. elim (touches-cases p k named t) [ inl e ↦ a e | inr e ↦ b e ])
+
+-- the size of a call at a position below zero, at zero, and above it
+pub call-below-zero : (n : ℕ) (r : ℤ) → sizeOfCall (negsuc n) r ≡ 0
+unfolding sizeOfCall
+call-below-zero n r = refl
+
+pub call-at-zero : (r : ℤ) → sizeOfCall (pos 0) r ≡ 0
+unfolding sizeOfCall
+call-at-zero r = refl
+
+pub call-above-zero : (n : ℕ) (r : ℤ) → sizeOfCall (pos (suc n)) r ≡ (suc n * natAbs r + 9999) / 10000
+unfolding sizeOfCall
+call-above-zero n r =
+    let above : ltZ (pos 0) (pos (suc n)) ≡ true = lt-ltb 0 (suc n) (omega arith) in
+    rw (above, size-product (pos (suc n)) r)

@@ -4,6 +4,7 @@ use mathlib.Core.Bool.{cond}
 use Prim.Native.Nat.{ℕ, _+_, _/_}
 use lib.Dec.{eqb}
 use lib.IntN.{ℤ, pos, natAbs, _+ℤ_, _-ℤ_, _*ℤ_}
+use lib.Signed.{ltZ}
 use Rattle.posting.specs.declared.Posting.{Posting}
 use Rattle.posting.specs.Kinds.{trade, rate, call, net}
 use Rattle.posting.specs.Conflicts.{touches}
@@ -22,11 +23,11 @@ onTrade p k s = record {
 abbrev pub onRate : ℕ → Figures → Figures
 onRate amount s = record { position = s .position; rate = pos amount; called = s .called; settled = s .settled }
 
--- the size of position × rate ÷ 10,000, rounded up
+-- where the position is above zero, the size of position × rate ÷ 10,000, rounded up; elsewhere nothing
 unfoldable pub sizeOfCall : ℤ → ℤ → ℕ
-sizeOfCall position rate = (natAbs (position *ℤ rate) + 9999) / 10000
+sizeOfCall position rate = cond (ltZ (pos 0) position) ((natAbs (position *ℤ rate) + 9999) / 10000) 0
 
--- CALL: called rises by the size of position × rate ÷ 10,000, rounded up
+-- CALL: called rises by the size of the call
 abbrev pub onCall : Figures → Figures
 onCall s = record {
   position = s .position;

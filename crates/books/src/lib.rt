@@ -68,13 +68,16 @@ pub fn size(x: i64) -> u64
     x as u64
 }
 
-// The size of position × rate ÷ 10,000, rounded up.
+// Where the position is above zero, the size of position × rate ÷ 10,000, rounded up; elsewhere nothing.
 pub fn size_of_call(position: i64, rate: i64) -> u64
     requires { ⌜ natAbs (position *ℤ rate) < 9223372036854775808 ⌝ }
     ensures { λ r. ⌜ r ≡ sizeOfCall position rate ⌝ }
 {
-    let product = position * rate;
-    (size(product) + 9999) / 10000
+    if 0 < position {
+        let product = position * rate;
+        return (size(product) + 9999) / 10000;
+    }
+    0
 }
 
 // TRADE at account k: the position of a rises, of b falls, by the amount.
@@ -101,7 +104,7 @@ pub fn rate(amount: u32, s: Figures) -> Figures
     t
 }
 
-// CALL: called rises by the size of position × rate ÷ 10,000, rounded up.
+// CALL: called rises by the size of the call.
 pub fn call(s: Figures) -> Figures
     requires { ⌜ Room s ⌝ }
     ensures { λ r. ⌜ r ≡ onCall s ⌝ }

@@ -108,7 +108,7 @@ fn product_fits(position: i64, rate: i64) -> bool
     p <= LARGEST / q
 }
 
-// The size of position × rate ÷ 10,000, rounded up; NO_SIZE if the product is no i64.
+// What a CALL adds to called; NO_SIZE if position × rate is no i64.
 pub fn size_of_call(position: i64, rate: i64) -> u64
     ensures { λ r. ⌜ r ≡ sizeAnswer position rate ⌝ }
 {

@@ -3,7 +3,7 @@
 use Prim.Native.Nat.{ℕ}
 use mathlib.Core.Bool.{true, false}
 use mathlib.Core.List.{List, [], _∷_}
-use lib.IntN.{pos, negℤ}
+use lib.IntN.{ℤ, pos, negℤ}
 use Rattle.posting.specs.declared.Posting.{Posting}
 use Rattle.posting.specs.Kinds.{trade, rate, call, net, everyAccount}
 use Rattle.site.specs.Sends.{FIRST}
@@ -14,7 +14,7 @@ use Rattle.machine.specs.declared.Answer.the-variants.{Done, Offered, Refused}
 use Rattle.machine.specs.Runs.{running}
 use Rattle.drain.specs.declared.Ending.the-variants.{Quiet, Spent}
 use Rattle.drain.specs.Drain.{drainLimit}
-use Rattle.cases.specs.Trials.{Entry, View, start, conflicts, called, calls, drain, look, prints, answer, answered, said, figure, ended, left, text, Case, _gives_}
+use Rattle.cases.specs.Trials.{Entry, View, start, conflicts, called, calls, drain, look, prints, answer, answered, said, numbers, ended, left, text, Case, _gives_}
 use Rattle.cases.specs.Boards.{began, arrives, trading, m9, m10}
 use Rattle.cases.specs.WholeCase.{wholeFile, wholeText}
 
@@ -30,6 +30,10 @@ aCall account = record { owner = 0; kind = call; a = account; b = account; amoun
 
 abbrev pub aNet : ℕ → Posting
 aNet account = record { owner = 0; kind = net; a = account; b = account; amount = 0 }
+
+-- M5's positions, and 1 and −1
+abbrev pub m5 : List ℤ
+m5 = pos 1000 ∷ pos 1001 ∷ negℤ (pos 1001) ∷ pos 0 ∷ pos 1 ∷ negℤ (pos 1) ∷ []
 
 -- ---- the table
 
@@ -51,11 +55,12 @@ marked =
     ∷ conflicts 0x5B6C (aRate 4) (aRate 4) gives said true
     ∷ conflicts 0x5B6C (aNet 4) (aNet 4) gives said false
     ∷ conflicts 0x5B6C (aNet everyAccount) (aCall 7) gives said true
-    -- M5: rate 250: positions 1000, 1001, −1001, 0 are called 25, 26, 26, 0.
-    ∷ called (pos 1000) (pos 250) gives figure (pos 25)
-    ∷ called (pos 1001) (pos 250) gives figure (pos 26)
-    ∷ called (negℤ (pos 1001)) (pos 250) gives figure (pos 26)
-    ∷ called (pos 0) (pos 250) gives figure (pos 0)
+    -- M5: rate 250: positions 1000, 1001, −1001, 0 are called 25, 26, 0, 0 (the −1001 by document 02, W5); 1 and −1 are called 1 and 0.
+    ∷ called (pos 250) m5 gives numbers (pos 25 ∷ pos 26 ∷ pos 0 ∷ pos 0 ∷ pos 1 ∷ pos 0 ∷ [])
+    -- The same positions at the rates 0, 1 and 10,000.
+    ∷ called (pos 0) m5 gives numbers (pos 0 ∷ pos 0 ∷ pos 0 ∷ pos 0 ∷ pos 0 ∷ pos 0 ∷ [])
+    ∷ called (pos 1) m5 gives numbers (pos 1 ∷ pos 1 ∷ pos 0 ∷ pos 0 ∷ pos 1 ∷ pos 0 ∷ [])
+    ∷ called (pos 10_000) m5 gives numbers (pos 1000 ∷ pos 1001 ∷ pos 0 ∷ pos 0 ∷ pos 1 ∷ pos 0 ∷ [])
     -- M6: the list above, which is all that `board` prints for the whole case; and the answers of its three calls.
     ∷ prints wholeFile gives text wholeText
     ∷ calls began (Offer 0 trade 1 2 1000 Whole ∷ arrives FIRST 0 0 0 ∷ arrives FIRST 0 0 0 ∷ [])

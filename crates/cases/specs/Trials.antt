@@ -72,8 +72,8 @@ pub data Trial : Type 0 where
   start : (n f matrix : ℕ) → Trial
   -- whether two postings, numbers 0 and 1, conflict under a matrix
   conflicts : (matrix : ℕ) → Posting → Posting → Trial
-  -- what a CALL adds to called of its account, by the account's position and rate
-  called : (position rate : ℤ) → Trial
+  -- what a CALL adds to called of its account, at a rate and each of these positions
+  called : (rate : ℤ) (positions : List ℤ) → Trial
   -- one call on a board
   ask : Board → Call → Trial
   -- calls on a board, each on what the one before it returned
@@ -99,7 +99,6 @@ pub data Result : Type 0 where
   answer : Answer → Result
   answered : List Answer → Result
   said : Bool → Result
-  figure : ℤ → Result
   numbers : List ℤ → Result
   does : Next → Result
   ended : (count : ℕ) → Ending → Result
@@ -124,8 +123,9 @@ callOfZero = record { owner = 0; kind = call; a = 0; b = 0; amount = 0 }
 unfoldable pub found : Trial → Result
 found (start n f matrix) = answer (starting n f matrix .answer)
 found (conflicts matrix p q) = said (conflicting matrix 0 p 1 q)
-found (called position rate) =
-    figure (effect callOfZero 0 (record { position = position; rate = rate; called = pos 0; settled = pos 0 }) .called)
+found (called rate positions) =
+    numbers
+    (map (λ position. effect callOfZero 0 (record { position = position; rate = rate; called = pos 0; settled = pos 0 }) .called) positions)
 found (ask b c) = answer (taking b c .answer)
 found (calls b l) = answered (answers b l)
 found (books b site long) = answer (showing b site (replicate long (pos 0)) .answer)

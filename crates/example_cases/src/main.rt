@@ -42,4 +42,5 @@ fn main() {
     print_case(4);
     print_case(5);
     print_case(6);
+    print_case(7);
 }

@@ -127,7 +127,7 @@ pub extern "C" fn board_conflict_set(matrix: u16, rows: &[u8], m: usize, out: &m
 
 // ---- effects and books
 
-// The size of position × rate ÷ 10,000, rounded up; NO_SIZE if the product is no i64.
+// What a CALL adds to called; NO_SIZE if position × rate is no i64.
 #[no_mangle]
 pub extern "C" fn board_size_of_call(position: i64, rate: i64) -> u64
     ensures { λ r. ⌜ r ≡ sizeAnswer position rate ⌝ }

@@ -6,7 +6,7 @@ use Rattle.cases.proofs.Computes.{computes}
 use Rattle.cases.proofs.Known.{known}
 use Rattle.cases.proofs.Ways.{Ways, over, _then_, ends, ways-hold, KnownSound, runs, empties, filling, fillingAll, ways}
 use Rattle.cases.proofs.KnownBoards.{began-known, boards}
-use Rattle.figure_cases.specs.Figures.{parted, afterCalls, afterNets, afterNetOfAll, nettedAgain, figures}
+use Rattle.figure_cases.specs.Figures.{parted, afterCalls, afterSale, afterPurchase, afterNets, afterNetOfAll, nettedAgain, figures, margins}
 
 -- Each board is bound once, so that it is evaluated once; one named at each case is evaluated at each.
 unfoldable pub ways-from : KnownSound parted → Ways figures
@@ -24,14 +24,36 @@ ways-from p =
     then filling p then fillingAll p
     then over
 
-unfoldable pub figures-ways : Ways figures
+unfoldable pub parted-known : KnownSound parted
 unfolding parted
-figures-ways = ways-from (runs (empties (runs began-known _) _) _)
+parted-known = runs (empties (runs began-known _) _) _
+
+unfoldable pub figures-ways : Ways figures
+figures-ways = ways-from parted-known
 
 -- `refl` is given the results: where it is left to find them, the cases are evaluated twice.
 figures-ends : ends figures-ways ≡ results figures
-unfolding computes known ways boards figures ways-from figures-ways
+unfolding computes known ways boards figures ways-from parted-known figures-ways
 figures-ends = refl {a = results figures}
 
 pub figures-hold : Hold figures
 figures-hold = ways-hold figures-ways figures-ends
+
+-- A table of its own: the check of one theorem may take so many steps, and each drain takes some.
+unfoldable pub margins-from : KnownSound parted → Ways margins
+unfolding margins afterCalls afterSale afterPurchase
+margins-from p =
+    let c = empties (runs p _) _ in
+    let s = empties (runs c _) _ in
+    let b = empties (runs s _) _ in
+    filling s then filling b then over
+
+unfoldable pub margins-ways : Ways margins
+margins-ways = margins-from parted-known
+
+margins-ends : ends margins-ways ≡ results margins
+unfolding computes known ways boards margins margins-from parted-known margins-ways
+margins-ends = refl {a = results margins}
+
+pub margins-hold : Hold margins
+margins-hold = ways-hold margins-ways margins-ends

@@ -16,16 +16,23 @@ use Rattle.cases.specs.Boards.{began, arrives}
 
 -- ---- boards
 
--- Site 0 offers TRADE 0 (1, 2, 1001) and RATE 1 (of 2, 250); a drain does their FIRSTs, SECONDs and THIRDs. Then DELIVERs arrive, so that the
+-- Site 0 offers TRADE 0 (1, 2, 1001) and RATE 1 (of 1, 250); a drain does their FIRSTs, SECONDs and THIRDs. Then DELIVERs arrive, so that the
 -- record of site 0 is 0 1, of site 1 it is empty, and of site 2 it is 0; and site 2 goes down.
 unfoldable pub parted : Board
 parted =
-    running (drained (running began (Offer 0 trade 1 2 1001 Whole ∷ Offer 0 rate 2 2 250 Whole ∷ [])) 30 .board)
+    running (drained (running began (Offer 0 trade 1 2 1001 Whole ∷ Offer 0 rate 1 1 250 Whole ∷ [])) 30 .board)
     (arrives DELIVER 0 0 0 ∷ arrives DELIVER 1 0 0 ∷ arrives DELIVER 0 0 2 ∷ Crash 2 ∷ [])
 
--- two CALLs of account 2, and a drain to quiet
+-- two CALLs of account 1, and a drain to quiet
 unfoldable pub afterCalls : Board
-afterCalls = drained (running parted (Offer 0 call 2 2 0 Whole ∷ Offer 1 call 2 2 0 Whole ∷ [])) drainLimit .board
+afterCalls = drained (running parted (Offer 0 call 1 1 0 Whole ∷ Offer 1 call 1 1 0 Whole ∷ [])) drainLimit .board
+
+-- then account 1 sells 2002 and is called once more, and a drain to quiet; it buys 1002 and is called once more, and a drain to quiet
+unfoldable pub afterSale : Board
+afterSale = drained (running afterCalls (Offer 0 trade 2 1 2002 Whole ∷ Offer 1 call 1 1 0 Whole ∷ [])) drainLimit .board
+
+unfoldable pub afterPurchase : Board
+afterPurchase = drained (running afterSale (Offer 1 trade 1 2 1002 Whole ∷ Offer 0 call 1 1 0 Whole ∷ [])) drainLimit .board
 
 -- a NET of account 1 and one of account 2, and a drain to quiet
 unfoldable pub afterNets : Board
@@ -60,51 +67,60 @@ accountOfAll b site k = partOfAll b (lent 3) (64 * site + 4 * k) 4
 abbrev pub four : (position rate called settled : ℤ) → Result
 four position rate called settled = numbers (position ∷ rate ∷ called ∷ settled ∷ [])
 
--- ---- the table
+-- ---- the tables
 
 unfoldable pub figures : List Case
 figures =
     -- TRADE: the position of 1 rises, of 2 falls, by the amount; the books are those of a site that is down
     account parted 2 1 gives four (pos 1001) (pos 0) (pos 0) (pos 0)
     ∷ account parted 2 2 gives four (negℤ (pos 1001)) (pos 0) (pos 0) (pos 0)
-    -- RATE: the rate of 2 becomes the amount
-    ∷ account parted 0 2 gives four (negℤ (pos 1001)) (pos 250) (pos 0) (pos 0)
+    -- RATE: the rate of 1 becomes the amount
+    ∷ account parted 0 1 gives four (pos 1001) (pos 250) (pos 0) (pos 0)
     -- an empty record: zeros
-    ∷ account parted 1 2 gives four (pos 0) (pos 0) (pos 0) (pos 0)
-    -- CALL: with each of the two called of 2 rises by the size of −1001 × 250 ÷ 10,000, which is 25.025, rounded up
-    ∷ account afterCalls 1 2 gives four (negℤ (pos 1001)) (pos 250) (pos 52) (pos 0)
+    ∷ account parted 1 1 gives four (pos 0) (pos 0) (pos 0) (pos 0)
+    -- CALL: with each of the two called of 1 rises by the size of 1001 × 250 ÷ 10,000, which is 25.025, rounded up
+    ∷ account afterCalls 1 1 gives four (pos 1001) (pos 250) (pos 52) (pos 0)
     -- NET: settled of 1 rises by its position, which becomes 0; settled of 2, which sold, by a negative one
-    ∷ account afterNets 1 1 gives four (pos 0) (pos 0) (pos 0) (pos 1001)
-    ∷ account afterNets 1 2 gives four (pos 0) (pos 250) (pos 52) (negℤ (pos 1001))
+    ∷ account afterNets 1 1 gives four (pos 0) (pos 250) (pos 52) (pos 1001)
+    ∷ account afterNets 1 2 gives four (pos 0) (pos 0) (pos 0) (negℤ (pos 1001))
     -- the whole slice: account 0; 1; 2; 3 to 15; what lies beyond stays
     ∷ part afterNets 0 (lent 1) 0 toEnd
     gives numbers
     (pos 0 ∷ pos 0 ∷ pos 0 ∷ pos 0
-    ∷ pos 0 ∷ pos 0 ∷ pos 0 ∷ pos 1001
-    ∷ pos 0 ∷ pos 250 ∷ pos 52 ∷ negℤ (pos 1001)
+    ∷ pos 0 ∷ pos 250 ∷ pos 52 ∷ pos 1001
+    ∷ pos 0 ∷ pos 0 ∷ pos 0 ∷ negℤ (pos 1001)
     ∷ (replicate 52 (pos 0) ++ (pos 8 ∷ pos 9 ∷ [])))
     -- NET 255: settled of every account rises by its position, which becomes 0; the sums come to 0
     ∷ part afterNetOfAll 1 (lent 1) 0 toEnd
     gives numbers
     (pos 0 ∷ pos 0 ∷ pos 0 ∷ pos 0
-    ∷ pos 0 ∷ pos 0 ∷ pos 0 ∷ pos 1001
-    ∷ pos 0 ∷ pos 250 ∷ pos 52 ∷ negℤ (pos 1001)
+    ∷ pos 0 ∷ pos 250 ∷ pos 52 ∷ pos 1001
+    ∷ pos 0 ∷ pos 0 ∷ pos 0 ∷ negℤ (pos 1001)
     ∷ pos 0 ∷ pos 0 ∷ pos 0 ∷ negℤ (pos 500)
     ∷ (replicate 44 (pos 0) ++ (pos 0 ∷ pos 0 ∷ pos 0 ∷ pos 500 ∷ pos 8 ∷ pos 9 ∷ [])))
     -- a second one changes nothing more
     ∷ part nettedAgain 1 (lent 1) 0 toEnd
     gives numbers
     (pos 0 ∷ pos 0 ∷ pos 0 ∷ pos 0
-    ∷ pos 0 ∷ pos 0 ∷ pos 0 ∷ pos 1001
-    ∷ pos 0 ∷ pos 250 ∷ pos 52 ∷ negℤ (pos 1001)
+    ∷ pos 0 ∷ pos 250 ∷ pos 52 ∷ pos 1001
+    ∷ pos 0 ∷ pos 0 ∷ pos 0 ∷ negℤ (pos 1001)
     ∷ pos 0 ∷ pos 0 ∷ pos 0 ∷ negℤ (pos 500)
     ∷ (replicate 44 (pos 0) ++ (pos 0 ∷ pos 0 ∷ pos 0 ∷ pos 500 ∷ pos 8 ∷ pos 9 ∷ [])))
-    -- all sites: account 2 of site 0, of 1, of 2; what lies beyond stays
-    ∷ accountOfAll parted 0 2 gives four (negℤ (pos 1001)) (pos 250) (pos 0) (pos 0)
-    ∷ accountOfAll parted 1 2 gives four (pos 0) (pos 0) (pos 0) (pos 0)
-    ∷ accountOfAll parted 2 2 gives four (negℤ (pos 1001)) (pos 0) (pos 0) (pos 0)
+    -- all sites: account 1 of site 0, of 1, of 2; what lies beyond stays
+    ∷ accountOfAll parted 0 1 gives four (pos 1001) (pos 250) (pos 0) (pos 0)
+    ∷ accountOfAll parted 1 1 gives four (pos 0) (pos 0) (pos 0) (pos 0)
+    ∷ accountOfAll parted 2 1 gives four (pos 1001) (pos 0) (pos 0) (pos 0)
     ∷ partOfAll parted (lent 3) 192 toEnd gives numbers (pos 8 ∷ pos 9 ∷ [])
     -- shorter than 64, and than 192: refused, and the slice stays
     ∷ part parted 0 (replicate 63 (pos 7)) 0 toEnd gives numbers (replicate 63 (pos 7))
     ∷ partOfAll parted (replicate 191 (pos 7)) 0 toEnd gives numbers (replicate 191 (pos 7))
+    ∷ []
+
+-- account 1 called again as its position crosses zero
+unfoldable pub margins : List Case
+margins =
+    -- at −1001: nothing more, and nothing back
+    account afterSale 1 1 gives four (negℤ (pos 1001)) (pos 250) (pos 52) (pos 0)
+    -- at 1: 0.025, rounded up
+    ∷ account afterPurchase 1 1 gives four (pos 1) (pos 250) (pos 53) (pos 0)
     ∷ []

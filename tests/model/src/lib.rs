@@ -1,5 +1,5 @@
 // Holds: the parts of the model of the posting board, and the readings taken where its paper is open.
-// Rests on: document 01 (the law), W2 and W14 of document 02, Figure 1 of document 003 (the two rounds), docs/FORMATS.md (rows); no more.
+// Rests on: document 01 (the law), W2, W5 and W14 of document 02, Figure 1 of document 003 (the two rounds), docs/FORMATS.md (rows); no more.
 //
 // Readings, each with its reason. R: refusals. S: steps. B: what a board is. P: program.
 //
@@ -36,6 +36,8 @@
 //     still the matrix's to say, by their kinds: W14 changes what is shared, not the matrix or its fixed pairs.
 // S12 A NET of 255 nets the accounts 0 to 15, each by its own position. 255 itself is no account: it has no figures,
 //     and no posting touches it.
+// S13 A CALL of a position of zero or below is offered, delivered and in conflict like any other, and what was called
+//     before stays: document 02, W5 changes what a CALL adds, and no more; "The fixed pairs are the same five".
 //
 // B1  C(m) ranges over the postings offered so far: others have no number.
 // B2  Site slots from n on are no sites of the board, so what stands in them is not judged; a set, mask or

@@ -95,6 +95,16 @@ pub fn conflict(matrix: u16, p: &Posting, q: &Posting) -> bool {
     share(p, q) && says(matrix, p.kind, q.kind)
 }
 
+/// What a CALL adds. Only those who owe are called (document 02, W5): nothing where the position is zero or below,
+/// else position × rate ÷ 10,000, rounded up.
+fn margin(position: i64, rate: i64) -> i64 {
+    if position <= 0 {
+        return 0;
+    }
+    let product = position.unsigned_abs() * rate.unsigned_abs();
+    product.div_ceil(MAX_RATE) as i64
+}
+
 /// Settles the position of one account.
 fn settle(account: usize, figures: &mut [i64; FIGURES]) {
     let k = 4 * account;
@@ -115,9 +125,7 @@ pub fn effect(posting: &Posting, figures: &mut [i64; FIGURES]) {
         }
         RATE => figures[a + RATE_OF] = amount,
         CALL => {
-            let size = figures[a + POSITION].unsigned_abs();
-            let rate = figures[a + RATE_OF].unsigned_abs();
-            figures[a + CALLED] += (size * rate).div_ceil(MAX_RATE) as i64;
+            figures[a + CALLED] += margin(figures[a + POSITION], figures[a + RATE_OF]);
         }
         _ => {
             let netted = (0..ACCOUNTS).filter(|&k| touches(posting, k as u8));

@@ -18,7 +18,7 @@ fn wide_effect(p: &Posting, figures: &mut [[i128; 4]; ACCOUNTS]) {
         }
         1 => figures[a][1] = amount,
         2 => {
-            let product = figures[a][0].abs() * figures[a][1];
+            let product = figures[a][0].max(0) * figures[a][1];
             let rest = i128::from(product % 10_000 != 0);
             figures[a][2] += product / 10_000 + rest;
         }
@@ -83,41 +83,44 @@ fn effects_are_exact() {
     }
 }
 
-/// The largest figures a board can give: all the postings pile up on one account.
+/// The largest figures a board can give: all the postings pile up on one account, that of the buyer or the seller.
 #[test]
 fn the_largest_books() {
-    let mut board = start(3, 0);
-    for _ in 0..254 {
-        board.offer(0, 0, 3, 7, MAX_AMOUNT, None).unwrap();
+    for (account, called) in [(3, 254_000_000_000), (7, 0)] {
+        let mut board = start(3, 0);
+        for _ in 0..254 {
+            board.offer(0, 0, 3, 7, MAX_AMOUNT, None).unwrap();
+        }
+        board.drain(DRAIN).unwrap();
+        board.offer(1, 1, account, account, 10_000, None).unwrap();
+        board.drain(DRAIN).unwrap();
+        board.offer(2, 2, account, account, 0, None).unwrap();
+        board.drain(DRAIN).unwrap();
+        let mut wanted = [0; 64];
+        wanted[4 * 3 + POSITION] = 254_000_000_000;
+        wanted[4 * 7 + POSITION] = -254_000_000_000;
+        wanted[4 * account as usize + RATE_OF] = 10_000;
+        wanted[4 * account as usize + CALLED] = called;
+        let mut lent = [5; 64];
+        board.books(2, &mut lent).unwrap();
+        assert_eq!(lent, wanted, "{account}");
+        assert!(sum_to_zero(&lent));
     }
-    board.drain(DRAIN).unwrap();
-    board.offer(1, 1, 7, 7, 10_000, None).unwrap();
-    board.drain(DRAIN).unwrap();
-    board.offer(2, 2, 7, 7, 0, None).unwrap();
-    board.drain(DRAIN).unwrap();
-    let mut lent = [5; 64];
-    board.books(2, &mut lent).unwrap();
-    assert_eq!(lent[4 * 3 + POSITION], 254_000_000_000);
-    assert_eq!(
-        lent[4 * 7..4 * 8],
-        [-254_000_000_000, 10_000, 254_000_000_000, 0]
-    );
-    assert!(sum_to_zero(&lent));
 }
 
 #[test]
 fn where_the_figures_stand() {
     let mut board = start(3, 1);
-    let offers = [(0, 4, 9, 1001), (1, 9, 9, 250), (2, 9, 9, 0), (3, 9, 9, 0)];
+    let offers = [(0, 9, 4, 1001), (1, 9, 9, 250), (2, 9, 9, 0), (3, 9, 9, 0)];
     for (kind, a, b, amount) in offers {
         board.offer(1, kind, a, b, amount, None).unwrap();
         board.drain(DRAIN).unwrap();
     }
     let mut wanted = [0; 64];
-    wanted[4 * 4 + POSITION] = 1001;
+    wanted[4 * 4 + POSITION] = -1001;
     wanted[4 * 9 + RATE_OF] = 250;
     wanted[4 * 9 + CALLED] = 26;
-    wanted[4 * 9 + SETTLED] = -1001;
+    wanted[4 * 9 + SETTLED] = 1001;
     let mut lent = [8; 70];
     assert_eq!(no(board.books(0, &mut lent)), 0);
     assert_eq!(lent[..64], wanted);

@@ -1,8 +1,9 @@
-// Holds: what the generators reach: each word of a set, the last posting, offers past it, numbers not offered, NET 255.
+// Holds: what the generators reach: each word of a set, the last posting, offers past it, numbers not offered, NET 255, CALLs by position.
 // Rests on: the model.
 
 use model::gen::{legal_start, mix_for, next_call, random_mix, random_run, Mix, LEADS, TASTES};
 use model::malform::any_file;
+use model::posting::{CALL, POSITION, RATE_OF};
 use model::prng::Prng;
 use model::scramble::scramble;
 use model::set::of;
@@ -191,6 +192,47 @@ fn every_lead_reaches_its_word() {
             assert_ne!(set.words[word], 0, "{taste}");
         }
     }
+}
+
+/// The sign of the position at each CALL in a record, by account; only CALLs at a rate above 0, as others add nothing
+/// anyway.
+fn signs_called(board: &Board, record: &[u8]) -> [Vec<i64>; ACCOUNTS] {
+    let mut signs = [const { Vec::new() }; ACCOUNTS];
+    let mut figures = [0_i64; FIGURES];
+    for &m in record {
+        let posting = &board.postings[usize::from(m)];
+        let a = usize::from(posting.a);
+        if posting.kind == CALL && figures[4 * a + RATE_OF] > 0 {
+            signs[a].push(figures[4 * a + POSITION].signum());
+        }
+        effect(posting, &mut figures);
+    }
+    signs
+}
+
+/// Once a run is drained, its books rest on CALLs of buyers, of sellers, of neither, and of accounts that were both.
+#[test]
+fn drained_runs_call_on_both_sides_of_zero() {
+    let mut rng = Prng::new(48);
+    let (mut times, mut both) = ([0; 3], 0);
+    for _ in 0..100 {
+        let (n, f, matrix) = legal_start(&mut rng);
+        let mix = mix_for(&mut rng, 400);
+        let run = random_run(&mut rng, (n, f, matrix), 400, &mix);
+        let mut board = Board::start(n.into(), f.into(), matrix).0;
+        for call in &run.calls {
+            let _ = board.apply_on_sound(call);
+        }
+        board.drain(27_136).unwrap();
+        for signs in signs_called(&board, &board.sites[0].record) {
+            both += usize::from(signs.contains(&-1) && signs.contains(&1));
+            signs
+                .iter()
+                .for_each(|sign| times[(sign + 1) as usize] += 1);
+        }
+    }
+    assert!(times.iter().all(|&count| count > 50), "{times:?}");
+    assert!(both > 20, "{both}");
 }
 
 /// Calls that are not wide fit a file even on a full board, where no byte is a number not offered; wide ones then

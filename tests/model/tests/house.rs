@@ -180,7 +180,7 @@ fn what_commutes() {
 fn the_books_of_a_board() {
     let mut board = start(3, 1);
     let offers = [
-        (0, 0, 15, 1000),
+        (0, 15, 0, 1000),
         (0, 3, 0, 250),
         (1, 15, 15, 250),
         (2, 15, 15, 0),
@@ -191,9 +191,9 @@ fn the_books_of_a_board() {
         board.drain(DRAIN).unwrap();
     }
     let mut wanted = [0; FIGURES];
-    wanted[SETTLED] = 750;
+    wanted[SETTLED] = -1250;
     wanted[4 * 3 + SETTLED] = 250;
-    wanted[4 * 15 + SETTLED] = -1000;
+    wanted[4 * 15 + SETTLED] = 1000;
     wanted[4 * 15 + RATE_OF] = 250;
     wanted[4 * 15 + CALLED] = 25;
     for round in 0..2 {

@@ -43,9 +43,10 @@ fn m3_m4_conflicts() {
     assert!(both(posting(NET, 255, 255, 0), posting(CALL, 7, 7, 0)));
 }
 
+/// −1001 is called 0 by document 02, W5.
 #[test]
-fn m5_calls_round_up_the_size() {
-    for (position, called) in [(1000, 25), (1001, 26), (-1001, 26), (0, 0)] {
+fn m5_calls_round_up_what_is_owed() {
+    for (position, called) in [(1000, 25), (1001, 26), (-1001, 0), (0, 0)] {
         let mut figures = [0; FIGURES];
         figures[4 * 3 + POSITION] = position;
         figures[4 * 3 + RATE_OF] = 250;

@@ -1,12 +1,21 @@
 // Holds: the examples of the repository: their files follow from run.txt, and show what their pages say.
 // Rests on: text, the model, and the folder examples.
 
-use model::{decode, Board};
+use model::posting::POSITION;
+use model::{decode, effect, Board, FIGURES};
 use std::fs;
 use std::path::PathBuf;
 use text::{assemble, disassemble, played, statement};
 
-const NAMES: [&str; 6] = ["crash", "cut", "december", "full-day", "whole-case", "year"];
+const NAMES: [&str; 7] = [
+    "crash",
+    "cut",
+    "december",
+    "full-day",
+    "three-calls",
+    "whole-case",
+    "year",
+];
 
 fn folder() -> PathBuf {
     PathBuf::from(env!("CARGO_MANIFEST_DIR")).join("../../examples")
@@ -95,6 +104,36 @@ fn december() {
     assert!(accounts.clone().all(|line| line.contains(" position 0 ")));
     let settled = accounts.map(|line| line.rsplit(' ').next().unwrap().parse::<i64>());
     assert_eq!(settled.sum::<Result<i64, _>>(), Ok(0));
+    assert_eq!(netted.matches(" called 12500 settled 500000\n").count(), 3);
+}
+
+/// An account is called 45,000 as a buyer, nothing as a seller and 1 as a buyer again. The log has the sale ahead of the
+/// second call, which it was offered with.
+#[test]
+fn three_calls() {
+    let (board, refused) = board("three-calls");
+    assert_eq!(refused, 0);
+    assert_eq!(board.log, [3, 4, 5, 6, 7, 8]);
+    let records = board.sites.clone().map(|site| site.record);
+    assert!(records[0] != records[1] && records[1] != records[2] && records[2] != records[0]);
+    let books = "account 7 position 1 rate 500 called 45001 settled 0\n\
+                 account 8 position -1 rate 500 called 0 settled 0\n";
+    let stated = text_of("three-calls", "statement.out");
+    assert_eq!(stated.matches(books).count(), 3);
+    for record in &records[..3] {
+        let positions = [3, 4, 6, 8].map(|call| position_at(&board, record, call));
+        assert_eq!(positions, [900_000, -900_000, -600_000, 1]);
+    }
+}
+
+/// The position of the account that a call names, by what stands ahead of the call in a record.
+fn position_at(board: &Board, record: &[u8], call: u8) -> i64 {
+    let posting = |m: u8| &board.postings[usize::from(m)];
+    let mut figures = [0; FIGURES];
+    for m in record.iter().take_while(|m| **m != call) {
+        effect(posting(*m), &mut figures);
+    }
+    figures[4 * usize::from(posting(call).a) + POSITION]
 }
 
 /// One entry carries all but its own posting, and one offer is too many.

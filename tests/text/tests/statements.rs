@@ -22,9 +22,9 @@ fn nothing_posted() {
 #[test]
 fn all_four_figures() {
     let mut text = "sites 3\ncrashes 0\nmatrix 0x5B6C\noffer 0 RATE 15 15 250\n".to_string();
-    text += "offer 1 TRADE 0 15 1001\noffer 0 CALL 15 15 0\noffer 2 NET 15 15 0\n";
-    let books = "account 0 position 1001 rate 0 called 0 settled 0\n\
-                 account 15 position 0 rate 250 called 26 settled -1001\n";
+    text += "offer 1 TRADE 15 0 1001\noffer 0 CALL 15 15 0\noffer 2 NET 15 15 0\n";
+    let books = "account 0 position -1001 rate 0 called 0 settled 0\n\
+                 account 15 position 0 rate 250 called 26 settled 1001\n";
     let site = |s| format!("Site {s} up\n{books}");
     let whole = [site(0), site(1), site(2)].concat();
     assert_eq!(
