@@ -1,4 +1,4 @@
--- What a posting does to the figures of one account: document 01's table of kinds, a definition a kind.
+-- What a posting does to the figures of one account: document 01's table of kinds, a definition a kind, with document 02's W5 for a CALL.
 -- Rests on posting. The figures are exact integers, so no sum here wraps.
 use mathlib.Core.Bool.{cond}
 use Prim.Native.Nat.{ℕ, _+_, _/_}
@@ -23,7 +23,7 @@ onTrade p k s = record {
 abbrev pub onRate : ℕ → Figures → Figures
 onRate amount s = record { position = s .position; rate = pos amount; called = s .called; settled = s .settled }
 
--- where the position is above zero, the size of position × rate ÷ 10,000, rounded up; elsewhere nothing
+-- the size of position × rate ÷ 10,000, rounded up; nothing where the position is zero or below (W5)
 unfoldable pub sizeOfCall : ℤ → ℤ → ℕ
 sizeOfCall position rate = cond (ltZ (pos 0) position) ((natAbs (position *ℤ rate) + 9999) / 10000) 0
 
