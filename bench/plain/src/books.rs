@@ -17,19 +17,36 @@ const SETTLED: usize = 3;
 /// A rate is so many parts of this.
 const WHOLE: u64 = 10_000;
 
+/// How many powers of two a call is worked from: WHOLE times the next one is more than any product.
+const POWERS: u32 = 50;
+
 /// Settled rises by the position, which becomes 0.
 fn net(figures: &mut [i64]) {
     figures[SETTLED] += figures[POSITION];
     figures[POSITION] = 0;
 }
 
+/// So many parts of a whole one in whole ones, rounded up, without a division: WHOLE times powers of two are taken away,
+/// the largest first. Where there is less, the difference wraps and is the larger of the two.
+fn rounded_up(parts: u64) -> u64 {
+    let mut rest = parts;
+    let mut taken = 0;
+    for k in (0..POWERS).rev() {
+        let left = rest.wrapping_sub(WHOLE << k);
+        if left < rest {
+            rest = left;
+            taken += 1 << k;
+        }
+    }
+    taken + u64::from(rest != 0)
+}
+
 /// What a call adds: of a position above zero, its product with the rate, rounded up.
-fn called(position: i64, rate: i64) -> i64 {
+pub fn called(position: i64, rate: i64) -> i64 {
     if position <= 0 {
         return 0;
     }
-    let product = position.unsigned_abs() * rate.unsigned_abs();
-    product.div_ceil(WHOLE) as i64
+    rounded_up(position.unsigned_abs() * rate.unsigned_abs()) as i64
 }
 
 impl Board {

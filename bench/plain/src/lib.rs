@@ -1,4 +1,4 @@
-// Holds: the parts of the plain twin of the proved engine, and its three functions.
+// Holds: the parts of the plain twin of the proved engine, its three functions, and what it adds for a call.
 // Rests on: document 01 (what the board does); nothing else.
 //
 // The design is that of the proved engine: a board is a few flat arrays that every event works on in place; C(m)
@@ -22,4 +22,5 @@ mod runfile;
 mod set;
 mod text;
 
+pub use books::called;
 pub use program::{run_drain, run_events, run_file, NONE};

@@ -1,10 +1,12 @@
-// Holds: the benchmark: tables of speeds and ratios for run files, drains and events alone, and one of memory.
-// Rests on: cases, sides, clock, memory.
+// Holds: the benchmark: tables of speeds and ratios for run files, drains, events alone and calls, and one of memory.
+// Rests on: calls, cases, sides, clock, memory.
 //
 // All sides get the same bytes, made beforehand, in the same process, and take turns. A call has all of its work
 // in it: the file is decoded, its events are done, and the text or the books are written. Slices that are lent
 // are made once and not cleared between calls. Each case is compared before it is timed.
 
+#[cfg(not(feature = "model-only"))]
+mod calls;
 mod cases;
 mod clock;
 mod conflicts;
@@ -42,6 +44,8 @@ fn main() {
     table(&cases, Unit::Nanoseconds, |side, case| {
         (case.events, side.on_events(&case.carried))
     });
+    #[cfg(not(feature = "model-only"))]
+    calls::table();
     memory::table(largest(&cases));
 }
 

@@ -1,11 +1,11 @@
 -- Laws of one effect: what is no kind does nothing, a posting changes the accounts that it touches, and no number of any other, what nets
 -- every account nets each, and a call is of a position above zero. Rests on Effect and Signed. Assumes nothing.
 use mathlib.Core.Path.{_≡_, refl, _∙_}
-use mathlib.Core.Bool.{true, false}
+use mathlib.Core.Bool.{true, false, cond}
 use mathlib.Core.Logic.{inl, inr}
 use Prim.Native.Nat.{ℕ, suc, _+_, _*_, _/_, _<_, _≤_}
 use native.Mathlib.Omega.{arith}
-use lib.IntN.{ℤ, pos, negsuc, natAbs}
+use lib.IntN.{ℤ, pos, negsuc, natAbs, _*ℤ_}
 use lib.Signed.{ltZ}
 use borrow.Author.Tests.{ne-eqb, lt-ltb}
 use Rattle.sets.proofs.Truth.{not-so}
@@ -43,6 +43,11 @@ effect-net-all p k s e h = effect-touched p k s (touches-all p k e h) ∙ rw (ne
 
 pub touches-neither : (p : Posting) (k : ℕ) → netsAll p ≡ false → (k ≡ p .a → ⊥) → (k ≡ p .b → ⊥) → touches p k ≡ false
 touches-neither p k named a b = not-so (touches p k) (λ t. elim (touches-cases p k named t) [ inl e ↦ a e | inr e ↦ b e ])
+
+-- a call is the same to the cent as before document 02's W4: the formula, with its division, as it stood
+pub size-of-call-same : (position r : ℤ) → sizeOfCall position r ≡ cond (ltZ (pos 0) position) ((natAbs (position *ℤ r) + 9999) / 10000) 0
+unfolding sizeOfCall
+size-of-call-same position r = refl
 
 -- the size of a call at a position below zero, at zero, and above it
 pub call-below-zero : (n : ℕ) (r : ℤ) → sizeOfCall (negsuc n) r ≡ 0

@@ -1,10 +1,11 @@
 -- What a posting does to the figures of one account: document 01's table of kinds, a definition a kind, with document 02's W5 for a CALL.
--- Rests on posting. The figures are exact integers, so no sum here wraps.
+-- Rests on posting and ten_thousandths. The figures are exact integers, so no sum here wraps.
 use mathlib.Core.Bool.{cond}
-use Prim.Native.Nat.{ℕ, _+_, _/_}
+use Prim.Native.Nat.{ℕ}
 use lib.Dec.{eqb}
 use lib.IntN.{ℤ, pos, natAbs, _+ℤ_, _-ℤ_, _*ℤ_}
 use lib.Signed.{ltZ}
+use Rattle.ten_thousandths.specs.Rounding.{tenThousandths}
 use Rattle.posting.specs.declared.Posting.{Posting}
 use Rattle.posting.specs.Kinds.{trade, rate, call, net}
 use Rattle.posting.specs.Conflicts.{touches}
@@ -25,7 +26,7 @@ onRate amount s = record { position = s .position; rate = pos amount; called = s
 
 -- the size of position × rate ÷ 10,000, rounded up; nothing where the position is zero or below (W5)
 unfoldable pub sizeOfCall : ℤ → ℤ → ℕ
-sizeOfCall position rate = cond (ltZ (pos 0) position) ((natAbs (position *ℤ rate) + 9999) / 10000) 0
+sizeOfCall position rate = cond (ltZ (pos 0) position) (tenThousandths (natAbs (position *ℤ rate))) 0
 
 -- CALL: called rises by the size of the call
 abbrev pub onCall : Figures → Figures

@@ -1,5 +1,5 @@
 // The books: what postings do to the sixteen accounts, in exact sums, and the books of records in a lent slice.
-// Rests on posting, on masks and sets for small things.
+// Rests on posting, on ten_thousandths for calls, on masks and sets for small things.
 ghost use mathlib.Core.Path.{_≡_};
 ghost use mathlib.Core.Bool.{cond};
 ghost use mathlib.Core.List.{_++_};
@@ -75,7 +75,7 @@ pub fn size_of_call(position: i64, rate: i64) -> u64
 {
     if 0 < position {
         let product = position * rate;
-        return (size(product) + 9999) / 10000;
+        return ten_thousandths::rounded_up(size(product));
     }
     0
 }

@@ -96,16 +96,17 @@ pub fn conflicting(
     posting::conflicting(matrix, m, p, x, q)
 }
 
-// Whether position × rate, and its negative, are numbers of an i64.
+// Whether position × rate, and its negative, are numbers of an i64, told without a division (W4): where the two together have fewer than 64
+// zeros before their first ones their product is 2^63 or more, and elsewhere it is a u64.
 fn product_fits(position: i64, rate: i64) -> bool
     ensures { λ r. ⌜ r ≡ productFits position rate ⌝ }
 {
     let p = books::size(position);
     let q = books::size(rate);
-    if q == 0 {
-        return true;
+    if u64::leading_zeros(p) + u64::leading_zeros(q) < 64 {
+        return false;
     }
-    p <= LARGEST / q
+    p * q <= LARGEST
 }
 
 // What a CALL adds to called; NO_SIZE if position × rate is no i64.

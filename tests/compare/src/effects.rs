@@ -42,7 +42,7 @@ fn same_size(tally: &mut Tally, position: i64, rate: i64) {
 }
 
 /// Positions around zero, around multiples of 10,000 and around the largest that a rate allows.
-pub fn calls(tally: &mut Tally) {
+fn near_multiples(tally: &mut Tally) {
     let rates = [
         0,
         1,
@@ -70,6 +70,36 @@ pub fn calls(tally: &mut Tally) {
             same_size(tally, (-largest).saturating_sub(near), rate);
         }
     }
+}
+
+/// The largest power of two of which 10,000 times is an i64.
+const LARGEST_POWER: u32 = 49;
+
+/// Products at 10,000 times each power of two and around it. One power less one has every smaller power in it.
+fn near_powers(tally: &mut Tally) {
+    for k in 0..=LARGEST_POWER {
+        for near in -300..=300 {
+            same_size(tally, (10_000 << k) + near, 1);
+            same_size(tally, (1 << k) + near, 10_000);
+            same_size(tally, 1, (10_000 << k) + near);
+        }
+    }
+}
+
+/// Factors at powers of two and around them, whose product has about as many bits as the largest number.
+fn near_largest(tally: &mut Tally) {
+    for (a, bits) in (0..64).flat_map(|a| (61..=66).map(move |bits| (a, bits))) {
+        let b = u32::saturating_sub(bits, a).min(63);
+        for (x, y) in (-2..=2).flat_map(|x| (-2..=2).map(move |y| (x, y))) {
+            let [p, q] = [(a, x), (b, y)].map(|(k, near)| (1i64 << k).wrapping_add(near));
+            same_size(tally, p, q);
+            same_size(tally, p, q.wrapping_neg());
+        }
+    }
+}
+
+/// Positions and rates of every length.
+fn any_length(tally: &mut Tally) {
     let mut rng = Prng::new(5);
     for _ in 0..20_000 {
         let position = rng.word() as i64 >> rng.below(64);
@@ -77,6 +107,13 @@ pub fn calls(tally: &mut Tally) {
         let rate = rng.pick(&[usual, any]);
         same_size(tally, position, rate);
     }
+}
+
+pub fn calls(tally: &mut Tally) {
+    near_multiples(tally);
+    near_powers(tally);
+    near_largest(tally);
+    any_length(tally);
 }
 
 /// One of an account's four numbers, mostly small, else around its limit or anything.
@@ -124,7 +161,31 @@ fn model_effect(p: &Posting, account: u8, figures: &[i64]) -> (u8, Vec<i64>) {
     (DONE, wanted)
 }
 
+/// A posting's effect on figures given, by both.
+fn same_effect(tally: &mut Tally, p: &Posting, account: u8, given: Vec<i64>) {
+    let mut figures = given.clone();
+    let wanted = model_effect(p, account, &figures);
+    let answer = proved::effect(p, account, &mut figures);
+    tally.same(wanted.0 == DONE, (answer, figures), wanted, || {
+        format!("{p:?} {account} {given:?}")
+    });
+}
+
+/// CALLs of positions at powers of two and around them, at the whole rate; some are past the limit of a position.
+fn calls_near_powers(tally: &mut Tally) {
+    let call = Posting {
+        kind: CALL,
+        ..Posting::default()
+    };
+    for k in 0..=LARGEST_POWER {
+        for near in -2..=2 {
+            same_effect(tally, &call, 0, vec![(1 << k) + near, 10_000, 0, 0]);
+        }
+    }
+}
+
 pub fn effects(tally: &mut Tally) {
+    calls_near_powers(tally);
     let mut rng = Prng::new(6);
     for _ in 0..150_000 {
         let p = if rng.percent(15) {
@@ -136,14 +197,8 @@ pub fn effects(tally: &mut Tally) {
         let touched = if nets_house(&p) { any } else { p.a };
         let account = rng.pick(&[touched, touched, p.b, any, 255]);
         let length = rng.pick(&[4, 4, 4, 4, 5, 9, 3, 0]);
-        let mut figures: Vec<i64> = (0..length)
-            .map(|at| figure(&mut rng, ROOM[at % 4]))
-            .collect();
-        let given = figures.clone();
-        let wanted = model_effect(&p, account, &figures);
-        let answer = proved::effect(&p, account, &mut figures);
-        tally.same(wanted.0 == DONE, (answer, figures), wanted, || {
-            format!("{p:?} {account} {given:?}")
-        });
+        let figures = (0..length).map(|at| figure(&mut rng, ROOM[at % 4]));
+        let given = figures.collect();
+        same_effect(tally, &p, account, given);
     }
 }

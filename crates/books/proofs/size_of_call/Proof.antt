@@ -28,18 +28,18 @@ size-at c =
     let b = c .before .before in
     c .size .ensures ∙ ap natAbs (op-is _*ℤ_ (b .args .position) (b .args .rate) (b .fits .position) (b .fits .rate) (b .pre))
 
-add-result : tie.Need-add-result
-add-result c = omega (arith, size-at c)
+rounded-up-requires : tie.Need-rounded-up-requires
+rounded-up-requires c κs = rw (size-at c) (c .before .before .pre)
 
 returns : tie.Need-returns
 unfolding sizeOfCall
 returns c =
-    let t = c .before in
-    rw (tested (t .before .args .position) (t .before .fits .position) ∙ t .if1 .taken, size-at c)
+    let t = c .before .before in
+    rw (tested (t .before .args .position) (t .before .fits .position) ∙ t .if1 .taken, c .rounded-up .ensures, size-at (c .before))
 
 returns-2 : tie.Need-returns-2
 unfolding sizeOfCall
 returns-2 c = rw (tested (c .before .args .position) (c .before .fits .position) ∙ c .if1 .left)
 
 pub size-of-call-spec : {M : Type 1} → statement M
-size-of-call-spec = tie.close (tie.spec mul-product size-requires add-result returns returns-2)
+size-of-call-spec = tie.close (tie.spec mul-product size-requires rounded-up-requires returns returns-2)
