@@ -1,7 +1,6 @@
 -- `books::size_of_call` meets its contract: nothing at zero or below; above, the product fits.
 -- Assumes nothing.
 use mathlib.Core.Path.{_≡_, _∙_, ap, sym}
-use native.Mathlib.Omega.{arith}
 use lib.IntN.{ℤ, pos, natAbs, _*ℤ_}
 use lib.Signed.{ltZ}
 use borrow.Author.Needs.{needs}

@@ -1,6 +1,6 @@
 -- `product_fits` meets its contract: the product is formed only where it is a u64.
 -- Assumes nothing.
-use Prim.Native.Nat.{_+_, _*_, _^_, _<_, _≤_}
+use Prim.Native.Nat.{_+_, _<_, _≤_}
 use mathlib.Core.Path.{_≡_, sym, ap, _∙_}
 use native.Mathlib.Omega.{arith}
 use lib.Count.{leadingZeros, leading-le}
