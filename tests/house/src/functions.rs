@@ -66,7 +66,7 @@ fn written(text: &str) -> Vec<Written> {
 }
 
 /// Whether a body divides, takes a remainder or shifts to the right.
-pub fn divides(body: &str) -> bool {
+fn divides(body: &str) -> bool {
     ["/", "%", ">>"].iter().any(|sign| body.contains(sign))
 }
 
@@ -118,18 +118,27 @@ struct Function {
 }
 
 impl Functions {
+    /// Those of all crates of the repository.
     pub fn read(root: &Path) -> Functions {
         let below = crates(root);
+        let paths = below.keys().flat_map(|own| {
+            let paths = files(root, own, "src", ".rt").into_iter();
+            paths.map(move |path| (own.clone(), read(&path)))
+        });
+        let texts: Vec<(String, String)> = paths.collect();
+        Functions::of(below, &texts)
+    }
+
+    /// Those of crates, each with all that it names as below it, and of their files, each with its crate.
+    pub fn of(below: BTreeMap<String, BTreeSet<String>>, texts: &[(String, String)]) -> Functions {
         let mut all: BTreeMap<Named, Function> = BTreeMap::new();
-        for own in below.keys() {
-            for text in files(root, own, "src", ".rt").iter().map(|path| read(path)) {
-                for Written { name, method, body } in written(&text) {
-                    let function = all.entry((own.clone(), name)).or_default();
-                    function.method |= method;
-                    function.calls.extend(calls(&body));
-                    function.brought.extend(brought(&text));
-                    function.divides |= divides(&body);
-                }
+        for (own, text) in texts {
+            for Written { name, method, body } in written(text) {
+                let function = all.entry((own.clone(), name)).or_default();
+                function.method |= method;
+                function.calls.extend(calls(&body));
+                function.brought.extend(brought(text));
+                function.divides |= divides(&body);
             }
         }
         Functions { below, all }
@@ -178,56 +187,5 @@ impl Functions {
 
     pub fn divides(&self, named: &Named) -> bool {
         self.all[named].divides
-    }
-}
-
-#[cfg(test)]
-mod tests {
-    use super::*;
-
-    const TEXT: &str = "use posting::shares;
-// a / b
-fn size(x: u64) -> u64
-    ensures { λ r. ⌜ r ≡ x / 2 ⌝ }
-{
-    // x / 2
-    let y = books::change(x, p.touches(x));
-    shares(y)
-}
-
-impl Part {
-    fn half(self) -> u64 {
-        self.rest / 2
-    }
-}
-";
-
-    #[test]
-    fn bodies_have_neither_contracts_nor_comments() {
-        let found = written(TEXT);
-        let said: Vec<(&str, bool, bool)> = found
-            .iter()
-            .map(|it| (it.name.as_str(), it.method, divides(&it.body)))
-            .collect();
-        assert_eq!(said, [("size", false, false), ("half", true, true)]);
-        assert!(divides("a % b") && divides("a >> b") && !divides("a << b"));
-    }
-
-    #[test]
-    fn calls_are_found_by_path_as_methods_and_by_name() {
-        let found = calls(&written(TEXT)[0].body);
-        let said: Vec<(Option<&str>, &str, bool)> = found
-            .iter()
-            .map(|call| (call.before.as_deref(), call.name.as_str(), call.method))
-            .collect();
-        assert_eq!(
-            said,
-            [
-                (Some("books"), "change", false),
-                (None, "touches", true),
-                (None, "shares", false)
-            ]
-        );
-        assert_eq!(brought(TEXT)["shares"], "posting");
     }
 }
