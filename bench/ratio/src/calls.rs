@@ -1,5 +1,5 @@
 // Holds: what the size of one call costs: with the division of before document 02's W4, by the twin, and proved.
-// Rests on: main, clock; the model's numbers, the plain twin, and the static library that programs links.
+// Rests on: main, clock; the model's random numbers, the plain twin, and the static library that programs links.
 
 use crate::clock::{in_turns, Timed};
 use model::prng::Prng;
@@ -10,7 +10,7 @@ const SEED: u64 = 1;
 /// How many calls a sample goes through, so that no processor learns them by heart.
 const CALLS: usize = 4_096;
 
-/// Below what the positions of a row lie; the last is the largest that a board's promises allow.
+/// Up to where the positions of a row go; the last is the largest that a board's promises allow.
 const POSITIONS: [u64; 5] = [100, 10_000, 1_000_000, 1_000_000_000, 200_000_000_000_000];
 
 const RATES: u64 = 10_001;
