@@ -1,10 +1,12 @@
-/* Runs the run file that is named, prints what `board` prints for it, and then, after a drain, the books of every site.
+/* Runs the run file that is named, prints what `board` prints for it, and then, after a drain, the books of every site. A second argument is
+   the most events that the drain does; with 0 the books are those of the board as the run leaves it.
    Rests on include/board.h and the static library of the crate exports. */
 #include "board.h"
 
 #include <errno.h>
 #include <inttypes.h>
 #include <stdio.h>
+#include <stdlib.h>
 #include <string.h>
 
 /* One byte more than the longest run file has: what fills it is malformed, however much follows. */
@@ -44,6 +46,15 @@ static bool read_input(const char *path, size_t *length)
     return whole;
 }
 
+/* The most events of the drain, in digits; false if the word is something else. */
+static bool read_limit(const char *word, uint64_t *limit)
+{
+    char *end;
+    errno = 0;
+    *limit = strtoull(word, &end, 10);
+    return word[0] >= '0' && word[0] <= '9' && *end == '\0' && errno == 0;
+}
+
 /* The text of a refused file is `F`, a space and a number of one digit. */
 static void print_refused(void)
 {
@@ -80,8 +91,9 @@ static void print_books(int sites)
 int main(int argc, char **argv)
 {
     size_t length;
-    if (argc != 2) {
-        fprintf(stderr, "usage: books RUN_FILE\n");
+    uint64_t limit = BOARD_DRAIN_LIMIT;
+    if (argc < 2 || argc > 3 || (argc == 3 && !read_limit(argv[2], &limit))) {
+        fprintf(stderr, "usage: books RUN_FILE [EVENTS]\n");
         return 1;
     }
     if (!read_input(argv[1], &length)) {
@@ -90,7 +102,7 @@ int main(int argc, char **argv)
     /* Both slices are long enough for every file: so the first call answers a count, and the second a count unless the
        file is refused. */
     uint64_t bytes = board_run_file(input, length, text, BOARD_TEXT);
-    uint64_t events = board_run_drain(input, length, BOARD_DRAIN_LIMIT, figures, BOARD_SITES * BOARD_FIGURES);
+    uint64_t events = board_run_drain(input, length, limit, figures, BOARD_SITES * BOARD_FIGURES);
     fwrite(text, 1, (size_t)bytes, stdout);
     if (events == BOARD_NO_COUNT) {
         print_refused();

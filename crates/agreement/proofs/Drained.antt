@@ -1,12 +1,12 @@
 -- A drain is the run of its events: it counts them, ends quiet or spent, and 27,136 is always enough. Lists with drains are lists of calls.
 -- Rests on Agreement, Drains, Simulated and Proved, on drain. Assumes nothing.
-use Prim.Native.Nat.{ℕ, zero, suc, _+_, _*_, _<_, _≤_}
+use Prim.Native.Nat.{ℕ, zero, suc, _+_, _*_, _≤_}
 use mathlib.Core.Path.{_≡_, refl, sym, ap, _∙_, subst}
 use mathlib.Core.Logic.{_⊎_, inl, inr}
 use mathlib.Core.Bool.{Bool, true, false, cond}
-use mathlib.Core.List.{List, [], _∷_, _++_, append-assoc, append-nil}
+use mathlib.Core.List.{List, [], _∷_, _++_}
 use native.Mathlib.Omega.{arith}
-use native.Mathlib.Nat.{mul-le-mul, mul-le-mul-left}
+use native.Mathlib.Nat.{mul-le-mul}
 use lib.ListN.{length}
 use Rattle.sets.proofs.Truth.{test, never}
 use Rattle.sets.specs.Sets.{capacity}
@@ -20,7 +20,6 @@ use Rattle.machine.specs.Soundness.{isSound, setupOk}
 use Rattle.machine.specs.Calls.{starting}
 use Rattle.machine.specs.Runs.{taking, accepted, running, isAction, isQuiet}
 use Rattle.machine.specs.History.{acceptedCalls, offers, actions}
-use Rattle.drain.specs.declared.Ending.{Ending}
 use Rattle.drain.specs.declared.Ending.the-variants.{Quiet, Spent}
 use Rattle.drain.specs.declared.Drained.{Drained}
 use Rattle.drain.specs.Drain.{Next, none, event, nextEvent, draining, drained}
@@ -28,12 +27,13 @@ use Rattle.machine.proofs.SoundTest.{facts-sound}
 use Rattle.machine.proofs.Facts.{setup-sites}
 use Rattle.invariants.proofs.Reached.{Good, good-sites, call-good, run-good}
 use Rattle.invariants.proofs.Start.{fresh-good, start-taken}
-use Rattle.agreement.specs.Agreement.{ceilingOf, BooksAgree, BooksAgreeAfter}
+use Rattle.agreement.specs.Agreement.{ceilingOf, BooksAgree}
+use Rattle.agreement.specs.Accounts.{AccountsAgree}
 use Rattle.agreement.specs.Drains.{Item, call, drain, eventsOf, standsFor, boardAfter, runningAll, expanded, BooksAgreeAfterAll, DrainSays}
 use Rattle.drain.proofs.Loop.{draining-none, draining-event}
-use Rattle.drain.proofs.NextEvent.{not-none, next-accepted, next-acts, next-none, quiet-next}
+use Rattle.drain.proofs.NextEvent.{next-accepted, next-acts, next-none, quiet-next}
 use Rattle.agreement.proofs.Simulated.{run-more}
-use Rattle.agreement.proofs.Proved.{agree-fresh, run-append, offers-few}
+use Rattle.agreement.proofs.Proved.{agree-fresh, books-agree, accounts-agree, run-append, offers-few}
 
 -- ---- one event more
 
@@ -226,16 +226,24 @@ all-runs b g (i ∷ l) =
     ∙ ap (λ (v : Board). running v (expanded (boardAfter b i) l)) same
     ∙ sym (run-append b (standsFor b i) (expanded (boardAfter b i) l))
 
--- The books agree after every list with drains.
-pub books-agree-drains : (n f matrix : ℕ) → accepted (starting n f matrix .answer) ≡ true → (items : List Item)
-    → BooksAgreeAfterAll n matrix (starting n f matrix .board) items
-books-agree-drains n f matrix ok items =
-    let (e, set) = start-taken n f matrix ok in
-    let setup : Setup = record { n = n; f = f; matrix = matrix } in
-    let runs = all-runs (freshBoard setup) (fresh-good setup set) items in
-    subst (λ (b : Board). BooksAgreeAfterAll n matrix b items) (sym e)
-    (subst (λ (v : Board). BooksAgree n matrix (freshBoard setup) (expanded (freshBoard setup) items) (acceptedCalls (freshBoard setup) (expanded (freshBoard setup) items)) v)
-    (sym runs) (agree-fresh setup set (expanded (freshBoard setup) items)))
+module _ (n f matrix : ℕ) (ok : accepted (starting n f matrix .answer) ≡ true) (items : List Item) where
+  abbrev start : Board
+  start = starting n f matrix .board
+
+  -- a list with drains from an accepted start is the list of its calls
+  ends-there : running start (expanded start items) ≡ runningAll start items
+  ends-there =
+      let (e, set) = start-taken n f matrix ok in
+      sym (all-runs start (subst Good (sym e) (fresh-good (record { n = n; f = f; matrix = matrix }) set)) items)
+
+  -- The books agree after every list with drains.
+  pub books-agree-drains : BooksAgreeAfterAll n matrix start items
+  books-agree-drains = subst (BooksAgree n matrix start (expanded start items) (acceptedCalls start (expanded start items))) ends-there
+      (books-agree n f matrix ok (expanded start items))
+
+  -- And so do accounts, one at a time.
+  pub accounts-agree-drains : AccountsAgree n (runningAll start items)
+  accounts-agree-drains = subst (AccountsAgree n) ends-there (accounts-agree n f matrix ok (expanded start items))
 
 -- What a drain says on every board that a list reaches from an accepted start.
 pub drain-says-reached : (n f matrix : ℕ) → accepted (starting n f matrix .answer) ≡ true → (calls : List Call) (limit : ℕ) → DrainSays (running (starting n f matrix .board) calls) limit

@@ -19,7 +19,6 @@ pub mod OnRead
 pub mod Along
 pub mod Begins
 pub mod Simulated
-pub mod Exchanged
 pub mod Posted
 pub mod Proved
 pub mod Drained

@@ -1,31 +1,31 @@
 -- The books agree: the proof of Agreement's statement, for a list of calls from any fresh board, and from any accepted start.
 -- Rests on Simulated and on the theory's theorems. Assumes nothing.
-use Prim.Native.Nat.{ℕ, zero, suc, _+_, _-_, _*_, _<_, _≤_}
+use Prim.Native.Nat.{ℕ, _*_, _<_, _≤_}
 use mathlib.Core.Path.{_≡_, refl, sym, ap, _∙_, subst}
-use mathlib.Core.Logic.{_⊎_, inl, inr}
-use mathlib.Core.Bool.{Bool, true, false, not, _&&_}
+use mathlib.Core.Logic.{inl, inr}
+use mathlib.Core.Bool.{Bool, true, false, not}
 use mathlib.Core.List.{List, [], _∷_, _++_}
 use native.Mathlib.Omega.{arith}
 use native.Mathlib.Nat.{mul-le-mul-left}
+use lib.IntN.{pos}
 use lib.ListN.{length, getD}
 use Rattle.sets.proofs.Truth.{test, never}
 use Rattle.sets.specs.Sets.{capacity, has}
 use Rattle.posting.specs.declared.Posting.{Posting}
 use Rattle.posting.specs.declared.Table.{Table}
-use Rattle.posting.specs.Kinds.{fieldsOk}
+use Rattle.posting.specs.Kinds.{accounts}
 use Rattle.posting.proofs.KindLaws.{fields}
 use Rattle.posting.specs.Conflicts.{noPosting, row, offered, conflict}
 use Rattle.posting.proofs.ConflictLaws.{offered-below, below-offered}
-use Rattle.posting.specs.Records.{numbersOf}
 use Rattle.posting.proofs.RecordLaws.{length-numbers}
-use Rattle.books.specs.Books.{Books, blank, books, numbers}
-use Rattle.books.proofs.Lines.{Exchange, no-conflict-exchange}
+use Rattle.books.specs.declared.Figures.{Figures}
+use Rattle.books.specs.Books.{Books, blank, books, four, numbers}
+use Rattle.books.proofs.Blocks.{numbers-at}
 use Rattle.site.specs.declared.Setup.{Setup}
 use Rattle.site.specs.Sends.{FIRST, SECOND, THIRD, DELIVER}
-use Rattle.site.specs.Steps.{ownerOf}
 use Rattle.machine.specs.declared.Board.{Board}
 use Rattle.steps.specs.declared.Call.{Call}
-use Rattle.machine.specs.Boards.{freshBoard, siteAt, isDown}
+use Rattle.machine.specs.Boards.{freshBoard, isDown}
 use Rattle.machine.specs.Soundness.{setupOk}
 use Rattle.machine.specs.Calls.{starting}
 use Rattle.machine.specs.Runs.{accepted, running, taking, NothingLeft, isQuiet}
@@ -36,26 +36,27 @@ use Rattle.invariants.proofs.History.{Done}
 use Rattle.invariants.proofs.Quiet.{left-quiet, quiet-flight, quiet-pool, quiet-place}
 use Rattle.invariants.proofs.Reached.{Good, run-good}
 use Rattle.invariants.proofs.Start.{fresh-good, fresh-done, run-done, start-taken}
-use Rattle.broadcast.specs.Lists.{In, Before, Exchanges, share}
+use Rattle.broadcast.specs.Lists.{In, share, OneOrder}
 use Rattle.broadcast.specs.Counts.{count}
 use Rattle.broadcast.specs.Machine.{World, State}
 use Rattle.broadcast.specs.Runs.{Quiet}
-use Rattle.broadcast.proofs.Lists.{before-left, share-same}
 use Rattle.broadcast.proofs.Safety.{safe}
 use Rattle.broadcast.proofs.Records.{records}
-use Rattle.broadcast.proofs.OneOrder.{Ordered, orderAt, one-order, delivered-named}
+use Rattle.broadcast.proofs.Counts.{count-most}
+use Rattle.broadcast.proofs.OneOrder.{Ordered, orderAt, one-order, order-kept, delivered-named}
 use Rattle.broadcast.proofs.Progress.{Agreed, progress}
 use Rattle.broadcast.proofs.Uniform.{uniform}
 use Rattle.broadcast.proofs.Ceiling as theory
-use Rattle.broadcast.proofs.Thrift.{Apart, thrift}
-use Rattle.agreement.specs.Agreement.{ceilingOf, OneOrder, BooksAgree, BooksAgreeAfter, Uniform}
+use Rattle.broadcast.proofs.Thrift.{thrift}
+use Rattle.same_books.proofs.SameBooks.{Free, lawful-free, same-books, same-account, same-numbers}
+use Rattle.agreement.specs.Agreement.{ceilingOf, BooksAgree, BooksAgreeAfter, Uniform}
+use Rattle.agreement.specs.Accounts.{AccountsAgree}
 use Rattle.agreement.proofs.World.{clash, Earlier, ownerIn, setup-matrix}
 use Rattle.agreement.proofs.Shows.{Shows}
 use Rattle.agreement.proofs.Ground.{W}
 use Rattle.agreement.proofs.Along.{run-earlier}
 use Rattle.agreement.proofs.Simulated.{Simulated, simulated}
 use Rattle.agreement.proofs.Posted.{books-zero}
-use Rattle.agreement.proofs.Exchanged.{exchanged-under, exchanged-books, count-most}
 
 clash-is : (matrix : ℕ) (t : Table) (x y : ℕ) → offered t x ≡ true → offered t y ≡ true → clash matrix t x y ≡ conflict matrix t x y
 unfolding clash
@@ -121,9 +122,6 @@ module _ (setup : Setup) (ok : setupOk setup ≡ true) (calls : List Call) where
   there : (p : ℕ) → p < setup .n → p < w .n
   there p lt = subst (λ (v : Setup). p < v .n) (sym same) lt
 
-  here : (p : ℕ) → p < w .n → p < setup .n
-  here p lt = subst (λ (v : Setup). p < v .n) same lt
-
   matrix-is : (x y : ℕ) → conflict (last .setup .matrix) (last .table) x y ≡ conflict (setup .matrix) (last .table) x y
   matrix-is x y = ap (λ (v : Setup). conflict (v .matrix) (last .table) x y) same
 
@@ -148,38 +146,21 @@ module _ (setup : Setup) (ok : setupOk setup ≡ true) (calls : List Call) where
   ordered : Ordered w s (orderAt w s)
   ordered = one-order w (sim .reached)
 
-  shares : (p : ℕ) → p < w .n → Exchanges (conflict (setup .matrix) (last .table)) (recordOf last p) (share (recordOf last p) order)
-  shares p lt = exchanged-under
-      (λ x y ix iy no-clash. sym (clash-is (last .setup .matrix) (last .table) x y (named p x lt ix) (named p y lt iy) ∙ matrix-is x y) ∙ no-clash)
-      (subst (λ (l : List ℕ). Exchanges (w .conflict) l (share l order)) (record-is p lt) (ordered .becomes-share p lt))
+  one : OneOrder (conflict (setup .matrix) (last .table)) (setup .n) (recordOf last) order
+  one = subst (λ (v : Setup). OneOrder (conflict (v .matrix) (last .table)) (v .n) (recordOf last) order) same
+      (order-kept record-is (λ p q x y lp lq ix iy. clash-is (last .setup .matrix) (last .table) x y (named p x lp ix) (named q y lq iy)) ordered)
 
-  exchange : (p : ℕ) → p < w .n → (x y : ℕ) → In x (recordOf last p) → In y (recordOf last p) → conflict (setup .matrix) (last .table) x y ≡ false → Exchange (last .table) x y
-  exchange p lt x y ix iy none = no-conflict-exchange (setup .matrix) ((setup-matrix setup ok) .1) (last .table) x y
-      (fields (row (last .table) x) (good .sound .fields x (named p x lt ix))) (fields (row (last .table) y) (good .sound .fields y (named p y lt iy))) none
+  free : Free (last .table) (conflict (setup .matrix) (last .table)) (setup .n) (recordOf last)
+  free = lawful-free (last .table) (setup .matrix) ((setup-matrix setup ok) .1) (setup .n) (recordOf last)
+      (λ p x lt h. fields (row (last .table) x) (good .sound .fields x (named p x (there p lt) h)))
 
-  same-books-from : (opening : Books) (p : ℕ) → p < w .n → books opening (last .table) (recordOf last p) ≡ books opening (last .table) (share (recordOf last p) order)
-  same-books-from opening p lt = exchanged-books (last .table) (exchange p lt) (shares p lt) opening
-
-  one : OneOrder (setup .n) (setup .matrix) last order
-  one = record {
-    once = ordered .no-repeat;
-    delivered = λ x h. let (p, lt, k) = ordered .delivered x h in (p, here p lt, to-record p x lt k);
-    complete = λ p x lt h. ordered .complete p x (there p lt) (of-record p x (there p lt) h);
-    becomes-share = λ p lt. shares p (there p lt);
-    has-ahead = λ p x y lt h c b.
-        let lp = there p lt in
-        let (q, lq, k) = ordered .delivered x (before-left x y order b) in
-        to-record p x lp (ordered .has-ahead p x y lp (of-record p y lp h)
-        (clash-is (last .setup .matrix) (last .table) x y (named q x lq (to-record q x lq k)) (named p y lp h) ∙ matrix-is x y ∙ c) b);
-    same-books = λ p lt. unfold figuresOf in ap numbers (same-books-from blank p (there p lt));
-  }
+  share-books : (opening : Books) (p : ℕ) → p < setup .n → numbers (books opening (last .table) (recordOf last p)) ≡ numbers (books opening (last .table) (share (recordOf last p) order))
+  share-books opening p lt = ap numbers (same-books (last .table) one free opening p lt)
 
   same-members : (p q : ℕ) → p < setup .n → q < setup .n → ((x : ℕ) → In x (recordOf last p) → In x (recordOf last q))
       → ((x : ℕ) → In x (recordOf last q) → In x (recordOf last p)) → figuresOf last p ≡ figuresOf last q
-  same-members p q lp lq forth back =
-      one .same-books p lp
-      ∙ ap (λ (l : List ℕ). numbers (books blank (last .table) l)) (share-same (recordOf last p) (recordOf last q) order forth back)
-      ∙ sym (one .same-books q lq)
+  unfolding figuresOf
+  same-members = same-numbers (last .table) one free blank
 
   -- ---- clause 5
 
@@ -282,6 +263,7 @@ module _ (setup : Setup) (ok : setupOk setup ≡ true) (calls : List Call) where
     only-offered = λ p x lt h. counted x (named setup ok calls p x (there setup ok calls p lt) h);
     order = order setup ok calls;
     one-order = one setup ok calls;
+    same-books = λ p lt. unfold figuresOf in share-books setup ok calls blank p lt;
     same-numbers = same-members setup ok calls;
     comes-to-zero = λ p lt. books-zero (running (freshBoard setup) calls) (good setup ok calls) p (there setup ok calls p lt);
     ceiling = λ m lt. spends setup ok calls m;
@@ -303,9 +285,19 @@ module _ (setup : Setup) (ok : setupOk setup ≡ true) (calls : List Call) where
       → numbers (books opening (running (freshBoard setup) calls .table) (recordOf (running (freshBoard setup) calls) p))
       ≡ numbers (books opening (running (freshBoard setup) calls .table) (share (recordOf (running (freshBoard setup) calls) p) (agree-fresh .order)))
   unfolding agree-fresh
-  books-from opening p lt = ap numbers (same-books-from setup ok calls opening p (there setup ok calls p lt))
+  books-from = share-books setup ok calls
 
--- ---- from an accepted start: demand 3
+  -- One account at a time.
+  pub accounts-fresh : AccountsAgree (setup .n) (running (freshBoard setup) calls)
+  unfolding figuresOf
+  accounts-fresh k p q lk lp lq same i li =
+      let table = running (freshBoard setup) calls .table in
+      let records = recordOf (running (freshBoard setup) calls) in
+      numbers-at accounts (books blank table (records p)) k i lk (omega (arith, li))
+      ∙ ap (λ (s : Figures). getD (four s) i (pos 0)) (same-account table (one setup ok calls) (free setup ok calls) blank k p q lp lq same)
+      ∙ sym (numbers-at accounts (books blank table (records q)) k i lk (omega (arith, li)))
+
+-- ---- from an accepted start: demand 3, and W12
 
 module _ (n f matrix : ℕ) (ok : accepted (starting n f matrix .answer) ≡ true) (calls : List Call) where
   pub books-agree : BooksAgreeAfter n matrix (starting n f matrix .board) calls
@@ -317,3 +309,8 @@ module _ (n f matrix : ℕ) (ok : accepted (starting n f matrix .answer) ≡ tru
   uniform-books =
       let (e, good) = start-taken n f matrix ok in
       subst (λ (b : Board). Uniform n (acceptedCalls b calls) (running b calls)) (sym e) (uniform-agreement (record { n = n; f = f; matrix = matrix }) good calls)
+
+  pub accounts-agree : AccountsAgree n (running (starting n f matrix .board) calls)
+  accounts-agree =
+      let (e, good) = start-taken n f matrix ok in
+      subst (λ (b : Board). AccountsAgree n (running b calls)) (sym e) (accounts-fresh (record { n = n; f = f; matrix = matrix }) good calls)

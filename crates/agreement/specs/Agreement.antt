@@ -2,7 +2,7 @@
 -- Rests on machine's definitions, which the public methods promise, and on Lists for lists of numbers. The proof is in proofs/Proved.
 use Prim.Native.Nat.{ℕ, _+_, _*_, _<_, _≤_}
 use mathlib.Core.Path.{_≡_}
-use mathlib.Core.Bool.{true, false}
+use mathlib.Core.Bool.{false}
 use mathlib.Core.List.{List, [], _++_}
 use lib.IntN.{pos}
 use lib.ListN.{length, getD}
@@ -14,37 +14,25 @@ use Rattle.steps.specs.declared.Call.{Call}
 use Rattle.machine.specs.Runs.{running, NothingLeft}
 use Rattle.machine.specs.History.{acceptedCalls, offers, orders, broughtDown, naming, actions}
 use Rattle.machine.specs.Figures.{recordOf, figuresOf}
-use Rattle.broadcast.specs.Lists.{In, NoRepeat, Before, Exchanges, share}
+use Rattle.broadcast.specs.Lists.{In, share, OneOrder}
 
 -- most receipts, log entries and log readings for a posting
 abbrev pub ceilingOf : ℕ → ℕ
 ceilingOf n = 2 * (n * n) + n + 1
 
--- ---- one order, on the board b that a list ends on
-
--- Of n sites, with this order: `matrix` tells which kinds conflict. A site that is down counts like one that is up.
-pub record OneOrder (n matrix : ℕ) (b : Board) (order : List ℕ) : Type 0 where
-  -- 1. It has each posting delivered anywhere once, and no other.
-  pub once : NoRepeat order
-  pub delivered : (x : ℕ) → In x order → (p : ℕ) × (p < n) × In x (recordOf b p)
-  pub complete : (p x : ℕ) → p < n → In x (recordOf b p) → In x order
-  -- 2. A site's record becomes its share of the order by exchanging neighbours that don't conflict,
-  pub becomes-share : (p : ℕ) → p < n → Exchanges (conflict matrix (b .table)) (recordOf b p) (share (recordOf b p) order)
-  -- 3. and has, with every posting y, each conflicting x that stands ahead of y in the order.
-  pub has-ahead : (p x y : ℕ) → p < n → In y (recordOf b p) → conflict matrix (b .table) x y ≡ true → Before x y order → In x (recordOf b p)
-  -- 4. All 64 numbers of its books equal those of its share, posted in that order from zeros.
-  pub same-books : (p : ℕ) → p < n → figuresOf b p ≡ numbers (books blank (b .table) (share (recordOf b p) order))
-
 -- ---- demand 3, whole
 
--- Of a list of calls from a board `start` of n sites. `done` is what was accepted of it; posting m is the one of the mth offer of `done`.
+-- Of a list of calls from a board `start` of n sites, where `matrix` tells which kinds conflict; b is the board that it ends on. `done` is what was
+-- accepted of it; posting m is the one of the mth offer of `done`. A site that is down counts like one that is up.
 pub record BooksAgree (n matrix : ℕ) (start : Board) (calls done : List Call) (b : Board) : Type 0 where
   -- The table's rows are the postings offered, in the order of their offers, and no other is delivered.
   pub rows : (m : ℕ) → m < length (offers done) → row (b .table) m ≡ getD (offers done) m noPosting
   pub only-offered : (p x : ℕ) → p < n → In x (recordOf b p) → x < length (offers done)
-  -- 1 to 4.
+  -- 1 to 3: all sites' records have one order.
   pub order : List ℕ
-  pub one-order : OneOrder n matrix b order
+  pub one-order : OneOrder (conflict matrix (b .table)) n (recordOf b) order
+  -- 4. All 64 numbers of a site's books equal those of its share, posted in that order from zeros.
+  pub same-books : (p : ℕ) → p < n → figuresOf b p ≡ numbers (books blank (b .table) (share (recordOf b p) order))
   -- So any two sites, up or down, that hold the same postings show the same 64 numbers.
   pub same-numbers : (p q : ℕ) → p < n → q < n → ((x : ℕ) → In x (recordOf b p) → In x (recordOf b q))
       → ((x : ℕ) → In x (recordOf b q) → In x (recordOf b p)) → figuresOf b p ≡ figuresOf b q

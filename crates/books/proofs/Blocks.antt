@@ -71,14 +71,14 @@ pub next-account : (k : ℕ) (s : Books) (l : List ℤ)
 unfolding numbersTo
 next-account k s l = next-block 4 k (numbersTo k s) (four (s k)) l (length-numbers k s) ∙ rw add-one
 
-numbers-ext : (n : ℕ) (s t : Books) → ((k : ℕ) → k < n → s k ≡ t k) → numbersTo n s ≡ numbersTo n t
+pub numbers-same : (n : ℕ) (s t : Books) → ((k : ℕ) → k < n → s k ≡ t k) → numbersTo n s ≡ numbersTo n t
 unfolding numbersTo
-numbers-ext zero s t h = refl
-numbers-ext (suc n) s t h = ap₂ _++_ (numbers-ext n s t (λ k l. h k (omega arith))) (ap four (h n (omega arith)))
+numbers-same zero s t h = refl
+numbers-same (suc n) s t h = ap₂ _++_ (numbers-same n s t (λ k l. h k (omega arith))) (ap four (h n (omega arith)))
 
 -- a sheet's numbers are those of its books
 pub sheet-numbers : (s : Books) → numbers (figuresOn (sheetOf s)) ≡ numbers s
-sheet-numbers s = numbers-ext accounts (figuresOn (sheetOf s)) s (λ k h. getD-tabulate accounts s zeros k h)
+sheet-numbers s = numbers-same accounts (figuresOn (sheetOf s)) s (λ k h. getD-tabulate accounts s zeros k h)
 
 pub length-sites : (n : ℕ) (opening : Books) (table : Table) (records : Records) → length (numbersOfSites n opening table records) ≡ 64 * n
 unfolding numbersOfSites

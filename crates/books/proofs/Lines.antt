@@ -38,18 +38,11 @@ pub next-line : (s : Books) (table : Table) (l : List ℕ) (i : ℕ) → i < len
 next-line s table l i h =
     sym (books-snoc s table (take i l) (getD l i 0)) ∙ ap (books s table) (rw (add-one i) (sym (take-suc l i 0 h)))
 
--- ---- neighbours exchanged
+-- ---- two lines exchanged
 
 -- x and y give the same books in either order
 abbrev pub Exchange : Table → ℕ → ℕ → Type 0
 Exchange table x y = (s : Books) → post (row table y) (post (row table x) s) ≡ post (row table x) (post (row table y) s)
-
--- so they may be exchanged where they stand side by side
-pub books-exchange : (table : Table) (x y : ℕ) → Exchange table x y → (front back : List ℕ) (s : Books)
-    → books s table (front ++ x ∷ y ∷ back) ≡ books s table (front ++ y ∷ x ∷ back)
-unfolding books
-books-exchange table x y h [] back s = ap (λ (b : Books). books b table back) (h s)
-books-exchange table x y h (m ∷ front) back s = books-exchange table x y h front back (post (row table m) s)
 
 kind-of : (p : Posting) → Fields p → p .kind < kinds
 kind-of p f = row-kind (p .kind) (p .a) (p .b) (p .amount) (f .within)

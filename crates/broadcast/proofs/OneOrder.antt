@@ -1,12 +1,12 @@
 -- One order of all postings delivered anywhere: every record respects it, and has with every posting each conflicting one ahead of it.
--- Rests on F1, F2 and R1 to R4 alone, as parameters; the last theorem is for the states that a run reaches. Assumes nothing.
+-- Rests on F1, F2 and R1 to R4 alone, as parameters; the theorem `one-order` is for the states that a run reaches. Assumes nothing.
 use Prim.Native.Nat.{ℕ, zero, suc, _<_}
-use mathlib.Core.Path.{_≡_, refl, sym, _∙_}
+use mathlib.Core.Path.{_≡_, refl, sym, _∙_, subst}
 use mathlib.Core.Logic.{inl, inr}
 use mathlib.Core.Bool.{Bool, true, false, not}
 use mathlib.Core.List.{List, [], _∷_, _++_, append-assoc}
 use native.Mathlib.Omega.{arith}
-use Rattle.broadcast.specs.Lists.{In, NoRepeat, Before, mem, Exchanges, keep, share}
+use Rattle.broadcast.specs.Lists.{In, NoRepeat, Before, mem, Exchanges, keep, share, OneOrder}
 use Rattle.broadcast.specs.Deliveries.{once, members}
 use Rattle.broadcast.specs.Counts.{nowhere}
 use Rattle.broadcast.specs.Machine.{World, State, entryOf, expand}
@@ -14,7 +14,7 @@ use Rattle.broadcast.specs.Runs.{Event, Reached}
 use Rattle.broadcast.proofs.Tests.{test, nope, not-true, same-or}
 use Rattle.broadcast.proofs.Counts.{nowhere-none}
 use Rattle.broadcast.proofs.Lists.{mem-in, in-mem, in-one, in-left, in-right, in-cases, before-left, before-right, keep-in, in-keep, keep-norepeat, keep-before, once-in, in-once, once-norepeat, once-before, Ahead, ahead-append, ahead-part, ahead-asym, ahead-past, ahead-here, keep-ahead, members-in, in-members}
-use Rattle.broadcast.proofs.Exchange.{exchanges}
+use Rattle.broadcast.proofs.Exchange.{exchanges, exchanged-under}
 use Rattle.broadcast.proofs.Ending.{won, won-held, won-apart, entry-apart, entry-carries}
 use Rattle.broadcast.proofs.Safety.{Safe, safe, log-named, entry-named, got-named, stepped-named}
 use Rattle.broadcast.proofs.Records.{Read, Records, records, expand-in}
@@ -128,12 +128,9 @@ module _ (w : World) where
   unfoldable pub orderAt : State → List ℕ
   orderAt s = orderOf (anywhere s) (expand w (s .oracle .entry) (s .oracle .log)) (w .bound)
 
-  pub record Ordered (s : State) (g : List ℕ) : Type 0 where
-    pub no-repeat : NoRepeat g
-    pub delivered : (x : ℕ) → In x g → (p : ℕ) × (p < w .n) × In x (s .sites .delivered p)
-    pub complete : (p x : ℕ) → p < w .n → In x (s .sites .delivered p) → In x g
-    pub becomes-share : (p : ℕ) → p < w .n → Exchanges (w .conflict) (s .sites .delivered p) (share (s .sites .delivered p) g)
-    pub has-ahead : (p x y : ℕ) → p < w .n → In y (s .sites .delivered p) → w .conflict x y ≡ true → Before x y g → In x (s .sites .delivered p)
+  -- the records of a state have this order
+  abbrev pub Ordered : State → List ℕ → Type 0
+  Ordered s order = OneOrder (w .conflict) (w .n) (s .sites .delivered) order
 
   module _ (s : State) (j : Safe w s) (i : Records w (won w (s .thirds)) (s .delivers .got) (s .oracle) (s .sites)) where
     -- N0 for records
@@ -170,7 +167,7 @@ module _ (w : World) where
     pub ordered : Ordered s (orderAt s)
     unfolding orderAt
     ordered = record {
-      no-repeat = order-once facts;
+      once = order-once facts;
       delivered = λ x m. at-anywhere s x (order-in facts x m);
       complete = λ p x lt m. in-order facts x (anywhere-at s p x lt m);
       becomes-share = λ p lt.
@@ -185,3 +182,23 @@ module _ (w : World) where
   -- One order, at every state that a run reaches.
   pub one-order : {es : List Event} {s : State} → Reached w es s → Ordered s (orderAt s)
   one-order {es} {s} r = ordered s (safe w r) (records w r)
+
+-- An order is that of any records that are the same, under any notion of conflict that says the same of what stands in them.
+pub order-kept : {c d : ℕ → ℕ → Bool} {n : ℕ} {records others : ℕ → List ℕ} {order : List ℕ} → ((p : ℕ) → p < n → records p ≡ others p)
+    → ((p q x y : ℕ) → p < n → q < n → In x (others p) → In y (others q) → c x y ≡ d x y) → OneOrder c n records order → OneOrder d n others order
+order-kept {c} {d} {n} {records} {others} {order} same alike one = record {
+  once = one .once;
+  delivered = λ x m. let (p, lt, k) = one .delivered x m in (p, lt, to p x lt k);
+  complete = λ p x lt m. one .complete p x lt (of p x lt m);
+  becomes-share = λ p lt. exchanged-under (λ x y ix iy free. sym (alike p p x y lt lt ix iy) ∙ free)
+      (subst (λ (l : List ℕ). Exchanges c l (share l order)) (same p lt) (one .becomes-share p lt));
+  has-ahead = λ p x y lt m e b.
+      let (q, lq, k) = one .delivered x (before-left x y order b) in
+      to p x lt (one .has-ahead p x y lt (of p y lt m) (alike q p x y lq lt (to q x lq k) m ∙ e) b);
+}
+  where
+    to : (p x : ℕ) → p < n → In x (records p) → In x (others p)
+    to p x lt m = subst (λ (l : List ℕ). In x l) (same p lt) m
+
+    of : (p x : ℕ) → p < n → In x (others p) → In x (records p)
+    of p x lt m = subst (λ (l : List ℕ). In x l) (sym (same p lt)) m

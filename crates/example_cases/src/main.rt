@@ -43,4 +43,5 @@ fn main() {
     print_case(5);
     print_case(6);
     print_case(7);
+    print_case(8);
 }

@@ -6,7 +6,7 @@ use Rattle.cases.proofs.Computes.{computes}
 use Rattle.cases.proofs.Known.{known}
 use Rattle.cases.proofs.Ways.{Ways, over, _then_, ends, ways-hold, KnownSound, runs, empties, filling, fillingAll, ways}
 use Rattle.cases.proofs.KnownBoards.{began-known, boards}
-use Rattle.figure_cases.specs.Figures.{parted, afterCalls, afterSale, afterPurchase, afterNets, afterNetOfAll, nettedAgain, figures, margins}
+use Rattle.figure_cases.specs.Figures.{parted, afterCalls, afterSale, afterPurchase, afterNets, afterNetOfAll, nettedAgain, figures, margins, apart, accounts}
 
 -- Each board is bound once, so that it is evaluated once; one named at each case is evaluated at each.
 unfoldable pub ways-from : KnownSound parted → Ways figures
@@ -57,3 +57,21 @@ margins-ends = refl {a = results margins}
 
 pub margins-hold : Hold margins
 margins-hold = ways-hold margins-ways margins-ends
+
+unfoldable pub accounts-from : KnownSound apart → Ways accounts
+unfolding accounts
+accounts-from a = filling a then filling a then filling a then filling a then filling a then filling a then over
+
+unfoldable pub apart-known : KnownSound apart
+unfolding apart
+apart-known = runs (empties (runs began-known _) _) _
+
+unfoldable pub accounts-ways : Ways accounts
+accounts-ways = accounts-from apart-known
+
+accounts-ends : ends accounts-ways ≡ results accounts
+unfolding computes known ways boards accounts accounts-from apart-known accounts-ways
+accounts-ends = refl {a = results accounts}
+
+pub accounts-hold : Hold accounts
+accounts-hold = ways-hold accounts-ways accounts-ends

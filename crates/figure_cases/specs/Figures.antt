@@ -23,6 +23,13 @@ parted =
     running (drained (running began (Offer 0 trade 1 2 1001 Whole ∷ Offer 0 rate 1 1 250 Whole ∷ [])) 30 .board)
     (arrives DELIVER 0 0 0 ∷ arrives DELIVER 1 0 0 ∷ arrives DELIVER 0 0 2 ∷ Crash 2 ∷ [])
 
+-- Site 0 offers RATE 0 (of 1, 250), TRADE 1 (3, 4, 500) and TRADE 2 (1, 2, 1001), and all but their DELIVERs is done. Then DELIVERs arrive, so that
+-- the record of site 0 is 0 1 2, of site 1 it is 2 0, and of site 2 it is empty; others are in flight.
+unfoldable pub apart : Board
+apart =
+    running (drained (running began (Offer 0 rate 1 1 250 Whole ∷ Offer 0 trade 3 4 500 Whole ∷ Offer 0 trade 1 2 1001 Whole ∷ [])) 45 .board)
+    (arrives DELIVER 0 0 0 ∷ arrives DELIVER 1 0 0 ∷ arrives DELIVER 2 0 0 ∷ arrives DELIVER 2 0 1 ∷ arrives DELIVER 0 0 1 ∷ [])
+
 -- two CALLs of account 1, and a drain to quiet
 unfoldable pub afterCalls : Board
 afterCalls = drained (running parted (Offer 0 call 1 1 0 Whole ∷ Offer 1 call 1 1 0 Whole ∷ [])) drainLimit .board
@@ -123,4 +130,17 @@ margins =
     account afterSale 1 1 gives four (negℤ (pos 1001)) (pos 250) (pos 52) (pos 0)
     -- at 1: 0.025, rounded up
     ∷ account afterPurchase 1 1 gives four (pos 1) (pos 250) (pos 53) (pos 0)
+    ∷ []
+
+-- one account at a time
+unfoldable pub accounts : List Case
+accounts =
+    -- sites 0 and 1 hold the same postings touching 1, and touching 2: the same numbers, from records 0 1 2 and 2 0
+    account apart 0 1 gives four (pos 1001) (pos 250) (pos 0) (pos 0)
+    ∷ account apart 1 1 gives four (pos 1001) (pos 250) (pos 0) (pos 0)
+    ∷ account apart 0 2 gives four (negℤ (pos 1001)) (pos 0) (pos 0) (pos 0)
+    ∷ account apart 1 2 gives four (negℤ (pos 1001)) (pos 0) (pos 0) (pos 0)
+    -- site 1 lacks the one that touches 3
+    ∷ account apart 0 3 gives four (pos 500) (pos 0) (pos 0) (pos 0)
+    ∷ account apart 1 3 gives four (pos 0) (pos 0) (pos 0) (pos 0)
     ∷ []

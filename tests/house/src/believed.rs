@@ -1,4 +1,4 @@
-// Holds: the files that must be believed: those of demand 3's statement and of the public promises, with all that they use.
+// Holds: the files that must be believed: those of the statements of demand 3 and of W12, and of the public promises, with all that they use.
 // Rests on: names, promises, tree.
 
 use crate::names::{uses, Source};
@@ -11,6 +11,9 @@ const STATEMENT: [&str; 2] = [
     "crates/agreement/specs/Agreement.antt",
     "crates/agreement/specs/Drains.antt",
 ];
+
+/// The statement of one account at a time.
+const ACCOUNTS: &str = "crates/agreement/specs/Accounts.antt";
 
 /// Of a file, or of the types that one declares: its lines, and those of them that define something.
 #[derive(Clone, Copy, Debug, Default, PartialEq, Eq)]
@@ -127,9 +130,10 @@ pub fn statement() -> Believed {
     found
 }
 
-/// Of the statement and of the public promises, without those of some functions.
+/// Of both statements and of the public promises, without those of some functions.
 fn promised(without: &[&str]) -> Believed {
     let mut found = statement();
+    found.take_file(ACCOUNTS.to_string());
     for (path, wanted) in PROMISED {
         let text = read(&root().join(path));
         for source in sources(&text, wanted, without) {
@@ -139,7 +143,7 @@ fn promised(without: &[&str]) -> Believed {
     found
 }
 
-/// Of the statement and of every promise of the service.
+/// Of both statements and of every promise of the service.
 pub fn service() -> Believed {
     promised(&FOR_TESTS)
 }

@@ -17,7 +17,10 @@ fn main() {
     let found = all();
     print!("{}", found.table());
     say("demand 3's statement", &statement());
-    say("with every promise of the service", &service());
+    say(
+        "with one account at a time and every promise of the service",
+        &service(),
+    );
     say("with what is exported for tests", &found);
     for fault in &found.faults {
         println!("fault: {fault}");

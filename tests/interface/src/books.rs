@@ -39,9 +39,9 @@ pub fn built(of: [&str; 4], folder: &str, name: &str) -> PathBuf {
     program
 }
 
-/// What the program prints for a run file, and how it ends.
-pub fn run(program: &Path, file: &Path) -> Output {
-    let output = Command::new(program).arg(file).output();
+/// What the program prints for a run file, with the most events of the drain if they are given, and how it ends.
+pub fn run(program: &Path, file: &Path, events: Option<&str>) -> Output {
+    let output = Command::new(program).arg(file).args(events).output();
     output.expect("the program was built")
 }
 

@@ -1,6 +1,7 @@
 // Holds: the parts of this package: run files made by seed, and the comparison of two programs on them.
 // Rests on: the model and its text package; unless model-only, the static library of the proved crate exports.
 
+pub mod accounts;
 pub mod aimed;
 pub mod called;
 pub mod carried;

@@ -7,11 +7,12 @@ use std::fs;
 use std::path::PathBuf;
 use text::{assemble, disassemble, played, statement};
 
-const NAMES: [&str; 7] = [
+const NAMES: [&str; 8] = [
     "crash",
     "cut",
     "december",
     "full-day",
+    "one-account",
     "three-calls",
     "whole-case",
     "year",
@@ -134,6 +135,29 @@ fn position_at(board: &Board, record: &[u8], call: u8) -> i64 {
         effect(posting(*m), &mut figures);
     }
     figures[4 * usize::from(posting(call).a) + POSITION]
+}
+
+/// Three different records, one of a site that is down, with the same postings touching account 5 and not those touching
+/// account 7, on a board that is not quiet.
+#[test]
+fn one_account() {
+    let (board, refused) = board("one-account");
+    assert_eq!((refused, board.down), (0, 4));
+    let records = board.sites.clone().map(|site| site.record);
+    assert_eq!(
+        records[..3],
+        [vec![0, 1, 2, 3], vec![1, 0, 3], vec![2, 1, 0, 3]]
+    );
+    assert!(text_of("one-account", "board.out").ends_with("\nQ no\n"));
+    let mut figures = [0; 3 * FIGURES];
+    board.books_of_all(&mut figures).unwrap();
+    let shown = |account: usize| {
+        let from = |site| FIGURES * site + 4 * account;
+        [0, 1, 2].map(|site| figures[from(site)..from(site) + 4].to_vec())
+    };
+    assert_eq!(shown(5), [[400_000, 300, 12_000, 0]; 3].map(Vec::from));
+    let [a, b, c] = shown(7);
+    assert_eq!((a[0], b[0], c[0]), (120_000, 0, 120_000));
 }
 
 /// One entry carries all but its own posting, and one offer is too many.

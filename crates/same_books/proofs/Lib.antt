@@ -1,0 +1,3 @@
+-- SameBooks: the books of records that have one order.
+-- Rests on the specs.
+pub mod SameBooks
