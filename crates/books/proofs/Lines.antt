@@ -1,4 +1,4 @@
--- Laws of the books of posting numbers: one line more; neighbours that don't conflict exchanged; an account depends on the postings that
+-- Laws of the books of posting numbers: one line more; two that don't conflict exchanged; an account depends on the postings that
 -- touch it; the total and the bounds after every line. Rests on Effects, Commute, Balance and Bounds. Assumes nothing.
 use mathlib.Core.Path.{_≡_, refl, sym, ap, _∙_, subst}
 use mathlib.Core.Bool.{true, false, _&&_}

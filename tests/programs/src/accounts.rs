@@ -4,6 +4,8 @@
 use crate::files::{numbers, Sort};
 use crate::programs::{left_by, Drains, NONE};
 use crate::stack::on_large_stack;
+use model::prng::Prng;
+use model::runfile::{EVENT, HEADER};
 use model::{touches, Board, ACCOUNTS, FIGURES, SITES};
 use std::ops::AddAssign;
 
@@ -17,15 +19,17 @@ pub struct Asked {
     pub boards: u64,
     /// Those of them with messages in flight to sites that are up.
     pub in_flight: u64,
-    pub questions: u64,
-    /// Questions to two sites whose records are not the same list.
+    /// Pairs of sites with a question.
+    pub pairs: u64,
+    /// Those of them whose records are not the same list.
     pub different: u64,
-    /// Questions to two sites of which one holds a posting that the other lacks.
+    /// Those of them of which one holds a posting that the other lacks.
     pub apart: u64,
-    /// Questions to two sites that hold the postings touching the account in different orders.
-    pub reordered: u64,
-    /// Questions to two sites of which one at least is down.
+    /// Those of them of which one at least is down.
     pub down: u64,
+    pub questions: u64,
+    /// Those of them where the postings touching the account stand in different orders.
+    pub reordered: u64,
     /// Accounts of two sites that do not hold the same postings touching it, and show other numbers.
     pub other_numbers: u64,
 }
@@ -34,18 +38,18 @@ impl AddAssign for Asked {
     fn add_assign(&mut self, other: Asked) {
         self.boards += other.boards;
         self.in_flight += other.in_flight;
-        self.questions += other.questions;
+        self.pairs += other.pairs;
         self.different += other.different;
         self.apart += other.apart;
-        self.reordered += other.reordered;
         self.down += other.down;
+        self.questions += other.questions;
+        self.reordered += other.reordered;
         self.other_numbers += other.other_numbers;
     }
 }
 
-/// A site: its number, the postings of its record that touch an account, and the account's numbers in its books.
+/// Of one site and one account: the postings of the record that touch it, and its numbers in the books.
 struct Seen {
-    site: usize,
     held: Vec<u8>,
     shown: [i64; OWN],
 }
@@ -54,7 +58,6 @@ fn seen(board: &Board, figures: &[i64], site: usize, account: usize) -> Seen {
     let held = |m: &&u8| touches(&board.postings[usize::from(**m)], account as u8);
     let from = FIGURES * site + OWN * account;
     Seen {
-        site,
         held: board.sites[site]
             .record
             .iter()
@@ -71,48 +74,53 @@ fn sorted(list: &[u8]) -> Vec<u8> {
     list
 }
 
-/// What is asked of two sites, if anything. The error says which show what.
-fn ask_two(board: &Board, p: &Seen, q: &Seen) -> Result<Asked, String> {
+/// Asks two sites about one account, if they hold the same. The error says what they hold and show.
+fn ask_account(p: &Seen, q: &Seen) -> Result<Asked, String> {
     let mut asked = Asked::default();
     if sorted(&p.held) != sorted(&q.held) {
         asked.other_numbers = u64::from(p.shown != q.shown);
-        return Ok(asked);
+    } else if p.shown != q.shown {
+        let (first, second) = (&p.held, &q.held);
+        let held = format!("the sites hold {first:?} and {second:?}");
+        return Err(format!("{held}, and show {:?} and {:?}", p.shown, q.shown));
+    } else if !p.held.is_empty() {
+        asked.questions = 1;
+        asked.reordered = u64::from(p.held != q.held);
     }
-    if p.shown != q.shown {
-        let (one, two) = (p.site, q.site);
-        let words = format!("site {one} shows {:?}, site {two} {:?}", p.shown, q.shown);
-        return Err(format!("{words}; they hold {:?} and {:?}", p.held, q.held));
-    }
-    if p.held.is_empty() {
-        return Ok(asked);
-    }
-    let [one, two] = [p, q].map(|s| &board.sites[s.site].record);
-    asked.questions = 1;
-    asked.different = u64::from(one != two);
-    asked.apart = u64::from(sorted(one) != sorted(two));
-    asked.reordered = u64::from(p.held != q.held);
-    asked.down = u64::from(!board.is_up(p.site) || !board.is_up(q.site));
     Ok(asked)
 }
 
-/// Asks about every account and every two sites of a board whose books of all sites these are.
-pub fn ask_board(board: &Board, figures: &[i64]) -> Result<Asked, String> {
+/// Asks two sites, with what each has of every account.
+fn ask_two(board: &Board, [p, q]: [usize; 2], all: &[Vec<Seen>]) -> Result<Asked, String> {
     let mut asked = Asked::default();
-    for account in 0..ACCOUNTS {
-        let sites = 0..usize::from(board.n);
-        let all: Vec<Seen> = sites
-            .map(|site| seen(board, figures, site, account))
-            .collect();
-        for (k, p) in all.iter().enumerate() {
-            for q in &all[k + 1..] {
-                asked +=
-                    ask_two(board, p, q).map_err(|cause| format!("account {account}: {cause}"))?;
-            }
+    for (account, (one, two)) in all[p].iter().zip(&all[q]).enumerate() {
+        let name = |cause| format!("sites {p} and {q}, account {account}: {cause}");
+        asked += ask_account(one, two).map_err(name)?;
+    }
+    if asked.questions > 0 {
+        let [one, two] = [p, q].map(|site| &board.sites[site].record);
+        asked.pairs = 1;
+        asked.different = u64::from(one != two);
+        asked.apart = u64::from(sorted(one) != sorted(two));
+        asked.down = u64::from(!board.is_up(p) || !board.is_up(q));
+    }
+    Ok(asked)
+}
+
+/// Asks every two sites of a board about every account. These are the books of all its sites.
+pub fn ask_board(board: &Board, figures: &[i64]) -> Result<Asked, String> {
+    let n = usize::from(board.n);
+    let of = |site| (0..ACCOUNTS).map(move |account| seen(board, figures, site, account));
+    let all: Vec<Vec<Seen>> = (0..n).map(|site| of(site).collect()).collect();
+    let mut asked = Asked::default();
+    for q in 0..n {
+        for p in 0..q {
+            asked += ask_two(board, [p, q], &all)?;
         }
     }
-    asked.boards = u64::from(asked.questions > 0);
     let under_way = !board.flight.messages(board.up()).is_empty();
-    asked.in_flight = u64::from(asked.boards > 0 && under_way);
+    asked.boards = u64::from(asked.pairs > 0);
+    asked.in_flight = u64::from(asked.pairs > 0 && under_way);
     Ok(asked)
 }
 
@@ -130,8 +138,25 @@ pub fn ask(drains: Drains, input: &[u8], limit: u64) -> Result<Asked, String> {
     }
 }
 
-/// Asks on the boards that all files of one sort leave, and on those that a short drain leaves then. The error names
-/// the file too, so that it can be made anew.
+/// Runs of a file with limits for the drain after them: the whole file without a drain and with a short one, and two
+/// beginnings of it.
+fn runs<'a>(rng: &mut Prng, file: &'a [u8]) -> [(&'a [u8], u64); 4] {
+    let events = file.len().saturating_sub(HEADER) / EVENT;
+    let mut beginning = || {
+        let some = rng.below(events as u64 + 1) as usize;
+        &file[..file.len().min(HEADER + EVENT * some)]
+    };
+    let beginnings = [(beginning(), 0), (beginning(), 0)];
+    [
+        (file, 0),
+        (file, rng.within(1, 40)),
+        beginnings[0],
+        beginnings[1],
+    ]
+}
+
+/// Asks on the boards that all files of one sort leave, and that parts of them do. The error names the file too, so that
+/// it can be made anew.
 pub fn ask_sort(drains: Drains, seed: u64, sort: &Sort) -> Result<Asked, String> {
     on_large_stack(|| ask_files(drains, seed, sort))
 }
@@ -141,11 +166,11 @@ fn ask_files(drains: Drains, seed: u64, sort: &Sort) -> Result<Asked, String> {
     for k in 0..sort.count {
         let mut rng = numbers(seed, sort, k);
         let file = sort.file(&mut rng, k);
-        let short = rng.within(1, 40);
-        for limit in [0, short] {
-            total += ask(drains, &file, limit).map_err(|cause| {
-                let name = sort.name;
-                format!("{name}, file {k} of seed {seed}, drained by {limit}: {cause}")
+        for (input, limit) in runs(&mut rng, &file) {
+            total += ask(drains, input, limit).map_err(|cause| {
+                let (name, length) = (sort.name, input.len());
+                let part = format!("its first {length} bytes, drained by {limit}");
+                format!("{name}, file {k} of seed {seed}, {part}: {cause}")
             })?;
         }
     }

@@ -49,11 +49,12 @@ fn what_is_asked() {
     let wanted = Asked {
         boards: 1,
         in_flight: 0,
-        questions: 2,
-        different: 2,
-        apart: 2,
-        reordered: 1,
+        pairs: 1,
+        different: 1,
+        apart: 1,
         down: 0,
+        questions: 2,
+        reordered: 1,
         other_numbers: 8,
     };
     assert_eq!(asked, wanted);
@@ -64,7 +65,7 @@ fn a_site_that_is_down_is_asked() {
     let mut board = board([&[0, 1, 2], &[2, 0]]);
     board.down = 2;
     let asked = ask_board(&board, &books(&board)).unwrap();
-    assert_eq!((asked.questions, asked.down), (2, 2));
+    assert_eq!((asked.pairs, asked.down), (1, 1));
 }
 
 /// A rate and a call of one account conflict: two records that have them in different orders do not show the same.
@@ -73,7 +74,9 @@ fn records_without_one_order_are_found() {
     let mut board = board([&[2, 0, 3], &[2, 3, 0]]);
     board.postings.push(posting(CALL, 1, 1, 0));
     let cause = ask_board(&board, &books(&board)).unwrap_err();
-    let words = "account 1: site 0 shows [1001, 250, 26, 0], site 1 [1001, 250, 0, 0]; they hold [2, 0, 3] and [2, 3, 0]";
+    let held = "the sites hold [2, 0, 3] and [2, 3, 0]";
+    let shown = "and show [1001, 250, 26, 0] and [1001, 250, 0, 0]";
+    let words = format!("sites 0 and 1, account 1: {held}, {shown}");
     assert_eq!(cause, words);
 }
 
@@ -94,7 +97,7 @@ fn found(drains: Drains) {
         })
     });
     let cause = cause.expect("a difference is found");
-    assert!(cause.starts_with("account "), "{cause}");
+    assert!(cause.contains("the sites hold "), "{cause}");
 }
 
 #[test]

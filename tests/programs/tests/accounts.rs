@@ -19,21 +19,26 @@ fn one_account_at_a_time() {
     let Asked {
         boards,
         in_flight,
-        questions,
+        pairs,
         different,
         apart,
-        reordered,
         down,
+        questions,
+        reordered,
         other_numbers,
     } = total;
     let on = format!("{boards} boards, {in_flight} of them with messages in flight");
-    let of = format!("{questions} accounts of two sites with the same postings touching it");
-    let records = format!("{different} with different records, {apart} with different postings");
-    let rest =
-        format!("{reordered} with those postings in different orders, {down} with a site down");
-    let line =
-        format!("{on}: {of}: {records}, {rest}: same numbers; {other_numbers} others differ");
+    let two = format!("{pairs} pairs of sites, {different} of them with different records, {apart} with different postings, {down} with a site down");
+    let of = format!("{questions} accounts with the same postings touching it, {reordered} of them in different orders");
+    let line = format!("{on}; {two}; {of}: same numbers; {other_numbers} others differ");
     let _ = writeln!(std::io::stdout(), "{line}");
-    assert!(boards >= 1 && in_flight >= 1 && other_numbers >= 1);
-    assert!(different >= 1 && apart >= 1 && reordered >= 1 && down >= 1);
+    assert!(boards >= 2_000 && in_flight >= 1_000, "{line}");
+    assert!(
+        different >= 5_000 && apart >= 2_000 && down >= 500,
+        "{line}"
+    );
+    assert!(
+        questions >= 50_000 && reordered >= 500 && other_numbers >= 5_000,
+        "{line}"
+    );
 }
