@@ -7,20 +7,16 @@ use mathlib.Core.Bool.{Bool, true, false, not}
 use mathlib.Core.List.{List, [], _∷_, _++_}
 use native.Mathlib.Omega.{arith}
 use native.Mathlib.Nat.{mul-le-mul-left}
-use lib.IntN.{pos}
 use lib.ListN.{length, getD}
 use Rattle.sets.proofs.Truth.{test, never}
 use Rattle.sets.specs.Sets.{capacity, has}
 use Rattle.posting.specs.declared.Posting.{Posting}
 use Rattle.posting.specs.declared.Table.{Table}
-use Rattle.posting.specs.Kinds.{accounts}
 use Rattle.posting.proofs.KindLaws.{fields}
 use Rattle.posting.specs.Conflicts.{noPosting, row, offered, conflict}
 use Rattle.posting.proofs.ConflictLaws.{offered-below, below-offered}
 use Rattle.posting.proofs.RecordLaws.{length-numbers}
-use Rattle.books.specs.declared.Figures.{Figures}
-use Rattle.books.specs.Books.{Books, blank, books, four, numbers}
-use Rattle.books.proofs.Blocks.{numbers-at}
+use Rattle.books.specs.Books.{Books, blank, books, numbers}
 use Rattle.site.specs.declared.Setup.{Setup}
 use Rattle.site.specs.Sends.{FIRST, SECOND, THIRD, DELIVER}
 use Rattle.machine.specs.declared.Board.{Board}
@@ -48,7 +44,7 @@ use Rattle.broadcast.proofs.Progress.{Agreed, progress}
 use Rattle.broadcast.proofs.Uniform.{uniform}
 use Rattle.broadcast.proofs.Ceiling as theory
 use Rattle.broadcast.proofs.Thrift.{thrift}
-use Rattle.same_books.proofs.SameBooks.{Free, lawful-free, same-books, same-account, same-numbers}
+use Rattle.same_books.proofs.SameBooks.{Free, lawful-free, same-books, same-four, same-numbers}
 use Rattle.agreement.specs.Agreement.{ceilingOf, BooksAgree, BooksAgreeAfter, Uniform}
 use Rattle.agreement.specs.Accounts.{AccountsAgree}
 use Rattle.agreement.proofs.World.{clash, Earlier, ownerIn, setup-matrix}
@@ -291,11 +287,7 @@ module _ (setup : Setup) (ok : setupOk setup ≡ true) (calls : List Call) where
   pub accounts-fresh : AccountsAgree (setup .n) (running (freshBoard setup) calls)
   unfolding figuresOf
   accounts-fresh k p q lk lp lq same i li =
-      let table = running (freshBoard setup) calls .table in
-      let records = recordOf (running (freshBoard setup) calls) in
-      numbers-at accounts (books blank table (records p)) k i lk (omega (arith, li))
-      ∙ ap (λ (s : Figures). getD (four s) i (pos 0)) (same-account table (one setup ok calls) (free setup ok calls) blank k p q lp lq same)
-      ∙ sym (numbers-at accounts (books blank table (records q)) k i lk (omega (arith, li)))
+      same-four (running (freshBoard setup) calls .table) (one setup ok calls) (free setup ok calls) blank k p q i lk (omega (arith, li)) lp lq same
 
 -- ---- from an accepted start: demand 3, and W12
 

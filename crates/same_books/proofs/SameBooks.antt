@@ -1,18 +1,21 @@
 -- Records that have one order stand for the same books, from any opening figures: a record's books are those of its share of the order, and two
 -- that hold the same postings of an account show the same figures for it. Rests on broadcast's lists and exchanges, and on books. Assumes nothing.
-use Prim.Native.Nat.{ℕ, _<_}
+use Prim.Native.Nat.{ℕ, _+_, _*_, _<_}
 use mathlib.Core.Path.{_≡_, refl, sym, ap, _∙_}
 use mathlib.Core.Logic.{inl, inr}
 use mathlib.Core.Bool.{Bool, true, false}
 use mathlib.Core.List.{List, [], _∷_}
+use lib.IntN.{pos}
+use lib.ListN.{getD}
 use Rattle.sets.proofs.Truth.{test}
 use Rattle.posting.specs.declared.Table.{Table}
 use Rattle.posting.specs.Kinds.{accounts, hasFixedPairs}
 use Rattle.posting.proofs.KindLaws.{Fields}
 use Rattle.posting.specs.Conflicts.{row, touches, conflict}
-use Rattle.books.specs.Books.{Books, post, books, numbers}
+use Rattle.books.specs.declared.Figures.{Figures}
+use Rattle.books.specs.Books.{Books, post, books, four, numbers}
 use Rattle.books.proofs.Lines.{Exchange, no-conflict-exchange, books-skip}
-use Rattle.books.proofs.Blocks.{numbers-same}
+use Rattle.books.proofs.Blocks.{numbers-at, numbers-same}
 use Rattle.broadcast.specs.Lists.{In, Exchanges, keep, share, OneOrder}
 use Rattle.broadcast.specs.Deliveries.{fold}
 use Rattle.broadcast.proofs.Lists.{share-same}
@@ -65,6 +68,14 @@ module _ (table : Table) {c : ℕ → ℕ → Bool} {n : ℕ} {records : ℕ →
       ∙ ap (λ (l : List ℕ). books opening table l k) (share-same (λ x. touches (row table x) k) (records p) (records q) same order)
       ∙ sym (books-touching table k (share (records q) order) opening)
       ∙ ap (λ (s : Books). s k) (sym (same-books q lq))
+
+  -- As numbers, of which account k has four.
+  pub same-four : (k p q i : ℕ) → k < accounts → i < 4 → p < n → q < n → SameTouching table k (records p) (records q)
+      → getD (numbers (books opening table (records p))) (4 * k + i) (pos 0) ≡ getD (numbers (books opening table (records q))) (4 * k + i) (pos 0)
+  same-four k p q i lk li lp lq same =
+      numbers-at accounts (books opening table (records p)) k i lk li
+      ∙ ap (λ (s : Figures). getD (four s) i (pos 0)) (same-account k p q lp lq same)
+      ∙ sym (numbers-at accounts (books opening table (records q)) k i lk li)
 
   -- With the same postings that holds of every account.
   pub same-numbers : (p q : ℕ) → p < n → q < n → ((x : ℕ) → In x (records p) → In x (records q)) → ((x : ℕ) → In x (records q) → In x (records p))
