@@ -286,8 +286,8 @@ module _ (setup : Setup) (ok : setupOk setup ≡ true) (calls : List Call) where
   -- One account at a time.
   pub accounts-fresh : AccountsAgree (setup .n) (running (freshBoard setup) calls)
   unfolding figuresOf
-  accounts-fresh k p q lk lp lq same i li =
-      same-four (running (freshBoard setup) calls .table) (one setup ok calls) (free setup ok calls) blank k p q i lk (omega (arith, li)) lp lq same
+  accounts-fresh k p q lk lp lq held i li =
+      same-four (running (freshBoard setup) calls .table) (one setup ok calls) (free setup ok calls) blank k p q i lk (omega (arith, li)) lp lq held
 
 -- ---- from an accepted start: demand 3, and W12
 

@@ -1,6 +1,6 @@
 -- Records that have one order stand for the same books, from any opening figures: a record's books are those of its share of the order, and two
 -- that hold the same postings of an account show the same figures for it. Rests on broadcast's lists and exchanges, and on books. Assumes nothing.
-use Prim.Native.Nat.{ℕ, _+_, _*_, _<_}
+use Prim.Native.Nat.{ℕ, _<_}
 use mathlib.Core.Path.{_≡_, refl, sym, ap, _∙_}
 use mathlib.Core.Logic.{inl, inr}
 use mathlib.Core.Bool.{Bool, true, false}
@@ -20,7 +20,7 @@ use Rattle.broadcast.specs.Lists.{In, Exchanges, keep, share, OneOrder}
 use Rattle.broadcast.specs.Deliveries.{fold}
 use Rattle.broadcast.proofs.Lists.{share-same}
 use Rattle.broadcast.proofs.Exchange.{fold-exchanges}
-use Rattle.same_books.specs.Accounts.{SameTouching}
+use Rattle.same_books.specs.Accounts.{SameTouching, numberOf}
 
 module _ (table : Table) where
   -- books are a fold, so exchanges leave them
@@ -71,7 +71,7 @@ module _ (table : Table) {c : ℕ → ℕ → Bool} {n : ℕ} {records : ℕ →
 
   -- As numbers, of which account k has four.
   pub same-four : (k p q i : ℕ) → k < accounts → i < 4 → p < n → q < n → SameTouching table k (records p) (records q)
-      → getD (numbers (books opening table (records p))) (4 * k + i) (pos 0) ≡ getD (numbers (books opening table (records q))) (4 * k + i) (pos 0)
+      → numberOf (numbers (books opening table (records p))) k i ≡ numberOf (numbers (books opening table (records q))) k i
   same-four k p q i lk li lp lq same =
       numbers-at accounts (books opening table (records p)) k i lk li
       ∙ ap (λ (s : Figures). getD (four s) i (pos 0)) (same-account k p q lp lq same)

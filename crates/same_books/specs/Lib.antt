@@ -1,3 +1,3 @@
--- Accounts: what two records hold of one account.
+-- Accounts: one account, in records and in books.
 -- Rests on broadcast and posting.
 pub mod Accounts
