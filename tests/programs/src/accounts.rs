@@ -107,7 +107,7 @@ fn ask_two(board: &Board, [p, q]: [usize; 2], all: &[Vec<Seen>]) -> Result<Asked
     Ok(asked)
 }
 
-/// Asks every two sites of a board about every account. These are the books of all its sites.
+/// Asks every two sites of a board about every account; `figures` has the books of all its sites.
 pub fn ask_board(board: &Board, figures: &[i64]) -> Result<Asked, String> {
     let n = usize::from(board.n);
     let of = |site| (0..ACCOUNTS).map(move |account| seen(board, figures, site, account));
