@@ -17,7 +17,8 @@ extern "C" {
    between calls either, so threads may call at the same time, each with slices of its own.
 
    Every function takes any numbers and any bytes. What it does not do it refuses by its answer, and leaves every slice
-   as it was. Where it writes to the first elements of a slice, those beyond stay.
+   as it was. Where it writes to the first elements of a slice, those beyond stay. Only the three slices that
+   board_audit_records is lent to work in hold anything after the call.
 
    STACK. board_run_by_value takes some 750 kB of the caller's stack and board_call_changed 1.1 MB; every other function
    takes less than 150 kB. Nothing is allocated.
@@ -72,6 +73,12 @@ extern "C" {
              where it is zero or below, nothing changes
      NET     settled rises by the position, with its sign, and the position becomes 0
 
+   RECORDS HANDED OVER, for an audit, come from another service. There are at most BOARD_AUDIT_POSTINGS posting numbers,
+   from 0 on, and the fields of number x are at place x of four slices of one length: `kinds`, `firsts` (account a),
+   `seconds` (account b) and `amounts`. A kind of BOARD_NO_KIND means that no posting has the number. `lines` has the
+   records of all sites, one behind the other, a posting number for each line; site p's record ends at `ends[p]`, and the
+   last end is the number of all lines.
+
    A SET OF POSTINGS is BOARD_WORDS words of 64 bits: posting m is bit m % 64 of word m / 64.
 
    A BOARD AS A ROW OF NUMBERS is BOARD_NUMBERS numbers of 64 bits; docs/FORMATS.md has the place of each. */
@@ -88,14 +95,18 @@ extern "C" {
 #define BOARD_RECORD_COUNT 2
 #define BOARD_RECORD (BOARD_RECORD_COUNT + BOARD_POSTINGS)
 #define BOARD_NUMBERS 25764
+#define BOARD_AUDIT_POSTINGS 65536
+#define BOARD_NO_KIND 255
+#define BOARD_AUDIT_NUMBERS 8
 
 /* ANSWERS. Of a function that answers `uint8_t`: done, or refused. */
 #define BOARD_DONE 0
 #define BOARD_REFUSED 255
 
-/* In place of a count or of the number of a refusal, and in place of the size of a call. */
+/* In place of a count or of the number of a refusal, in place of the size of a call, and in place of an audit's answer. */
 #define BOARD_NO_COUNT UINT64_C(18446744073709551615)
 #define BOARD_NO_SIZE UINT64_C(18446744073709551615)
+#define BOARD_NO_ANSWER UINT64_C(18446744073709551615)
 
 /* The NUMBER OF A REFUSAL, as `board` prints it and as board_run_events and board_call_changed give it. 0 is accepted.
 
@@ -117,6 +128,27 @@ extern "C" {
      16  the slice for books is too short
 
    Where several apply it is the lowest. A run file itself is refused with 1 to 5, an event of it with 7 to 15. */
+
+/* The CODE OF AN AUDIT. The numbers of its refusals are its own. Where several apply it is the lowest, at the first site
+   and its first line.
+
+      0  the records agree
+      1  no record, or more than BOARD_SITES
+      2  the matrix is not symmetric, or lacks a fixed pair
+      3  sizes: more than BOARD_AUDIT_POSTINGS numbers, slices of fields with different lengths, ends that fall or do not
+         come to the number of lines, a slice that is too short
+      5  a posting is outside the field rule
+      7  a record names a number that has no posting
+      9  a record names a posting twice
+
+     10  crossed: site `here` has `first` ahead of `second`, site `there` has `second` ahead of `first`
+     11  missing: site `here` has `second` without `first`, which site `there` has ahead of `second`
+     12  apart: site `here` has `first`, site `there` has `second`, and no site has both
+
+   10 to 12 are found where records do not agree: two postings that conflict, `first` and `second`, show it. */
+#define BOARD_CROSSED 10
+#define BOARD_MISSING 11
+#define BOARD_APART 12
 
 /* A drain with this limit ends quiet on every board that a run file leaves. */
 #define BOARD_DRAIN_LIMIT 27136
@@ -209,6 +241,37 @@ uint8_t board_books(const uint8_t *rows, size_t rows_length, const uint8_t *deli
    Answers as board_books does, and BOARD_REFUSED too if the records are not whole or more than BOARD_SITES. */
 uint8_t board_books_all(const uint8_t *rows, size_t rows_length, const uint8_t *delivered, size_t delivered_length,
                         int64_t *out, size_t out_length);
+
+/* ---- records handed over */
+
+/* Audits records: whether there is one order of all postings from which every record comes by exchanging neighbours that
+   do not conflict, and of which it has all that conflicts with, and stands ahead of, what it has; two records that agree
+   in this way and hold the same postings stand for the same books. Answers with the code of the audit, and writes to the
+   first BOARD_AUDIT_NUMBERS numbers of `out`: site, line, posting, above, first, second, here, there.
+
+     code 0 to 3     all are 0
+     code 5          posting is the lowest number whose posting is outside the field rule, the others are 0
+     code 7, 9       the site, the line of its record, from 0 on, and the number there; above is the first line of the
+                     record that has the same number, if it is named twice, else 0
+     code 10 to 12   the first line that departs from the lines read before it: its site and line; posting is the lowest
+                     number that shows it. What comes before this line agrees. first and second are this posting and the
+                     one at the line, in the order of the code's sentence; here and there are its sites
+
+   `marks`, `places` and `ahead` are lent to work in, and have at least 1, 1 and 8 numbers for each posting number.
+   Answers BOARD_NO_ANSWER, and writes nothing, if `out` is shorter than BOARD_AUDIT_NUMBERS. */
+uint64_t board_audit_records(uint16_t matrix, const uint8_t *kinds, size_t kinds_length, const uint8_t *firsts,
+                             size_t firsts_length, const uint8_t *seconds, size_t seconds_length,
+                             const uint32_t *amounts, size_t amounts_length, const uint16_t *lines,
+                             size_t lines_length, const size_t *ends, size_t ends_length, uint8_t *marks,
+                             size_t marks_length, uint32_t *places, size_t places_length, uint32_t *ahead,
+                             size_t ahead_length, uint64_t *out, size_t out_length);
+
+/* Writes the books of one record handed over, of at most BOARD_AUDIT_POSTINGS lines, to the first BOARD_FIGURES numbers of
+   `out`. Answers 0, or with the lowest of the audit's refusals 3, 5 and 7 that applies. */
+uint8_t board_audit_figures(const uint8_t *kinds, size_t kinds_length, const uint8_t *firsts, size_t firsts_length,
+                            const uint8_t *seconds, size_t seconds_length, const uint32_t *amounts,
+                            size_t amounts_length, const uint16_t *lines, size_t lines_length, int64_t *out,
+                            size_t out_length);
 
 #ifdef __cplusplus
 }

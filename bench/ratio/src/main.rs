@@ -1,16 +1,20 @@
-// Holds: the benchmark: tables of speeds and ratios for run files, drains, events alone and calls, and one of memory.
-// Rests on: calls, cases, sides, clock, memory.
+// Holds: the benchmark: tables of speeds and ratios for run files, drains, events alone, calls and audits, and one of memory.
+// Rests on: audits, calls, cases, sides, clock, memory.
 //
 // All sides get the same bytes, made beforehand, in the same process, and take turns. A call has all of its work
 // in it: the file is decoded, its events are done, and the text or the books are written. Slices that are lent
 // are made once and not cleared between calls. Each case is compared before it is timed.
 
 #[cfg(not(feature = "model-only"))]
+mod audits;
+#[cfg(not(feature = "model-only"))]
 mod calls;
 mod cases;
 mod clock;
 mod conflicts;
 mod memory;
+#[cfg(not(feature = "model-only"))]
+mod records;
 mod sides;
 
 use cases::{cases, largest, Case};
@@ -46,6 +50,8 @@ fn main() {
     });
     #[cfg(not(feature = "model-only"))]
     calls::table();
+    #[cfg(not(feature = "model-only"))]
+    audits::table();
     memory::table(largest(&cases));
 }
 

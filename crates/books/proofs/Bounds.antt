@@ -50,7 +50,7 @@ module _ (n : ℕ) (s : Figures) (h : After n s) where
   net-after : After (suc n) (onNet s)
   net-after = record { position = omega arith; rate = h .rate; called = omega (arith, grow n); settled = omega (arith, grow n, size-sum (s .settled) (s .position)) }
 
-  pub later : After (suc n) s
+  later : After (suc n) s
   later = record { position = omega arith; rate = h .rate; called = omega (arith, grow n); settled = omega (arith, grow n) }
 
   change-after : (kind : ℕ) (p : Posting) (k : ℕ) → (kind ≡ trade → p .amount ≤ 1_000_000_000) → (kind ≡ rate → p .amount ≤ 10_000)

@@ -3,13 +3,13 @@
 use mathlib.Core.Path.{_≡_, refl, sym, ap, _∙_, subst}
 use mathlib.Core.Bool.{true, false, _&&_}
 use mathlib.Core.List.{List, [], _∷_, _++_}
-use Prim.Native.Nat.{ℕ, suc, _+_, _<_}
+use Prim.Native.Nat.{ℕ, suc, _+_, _<_, _≤_}
 use native.Mathlib.Decide.{ℕ-discrete}
 use native.Mathlib.Numerals.{add-one}
 use native.Mathlib.Omega.{arith}
 use lib.IntN.{pos}
 use lib.ListN.{length, getD, take}
-use lib.Seq.{take-suc}
+use lib.Seq.{take-suc, length-take-le, getD-take}
 use borrow.Author.Tests.{ne-eqb}
 use Rattle.sets.proofs.Truth.{never, not-so, and-left, and-right, and-intro}
 use Rattle.posting.specs.declared.Posting.{Posting}
@@ -96,6 +96,10 @@ module _ (table : Table) where
 
   rest : (m : ℕ) (l : List ℕ) → Lawful (m ∷ l) → Lawful l
   rest m l ok i h = ok (suc i) (omega arith)
+
+  -- the first n lines
+  pub lawful-take : (l : List ℕ) (n : ℕ) → n ≤ length l → ((i : ℕ) → i < n → Fields (row table (getD l i 0))) → Lawful (take n l)
+  lawful-take l n h ok i b = let m : i < n = omega (arith, length-take-le n l h) in rw (getD-take n l i 0 m) (ok i m)
 
   pub books-total : (l : List ℕ) → Lawful l → (s : Books) → total (books s table l) ≡ total s
   unfolding books

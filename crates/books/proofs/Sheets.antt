@@ -1,6 +1,6 @@
 -- Posting on a sheet: every account netted, what the code does with a line of a record, and what a record that may be posted says of each line.
 -- Rests on Lines. Assumes nothing.
-use mathlib.Core.Path.{_≡_, refl, sym, ap, _∙_, subst, subst⁻¹, fun-ext}
+use mathlib.Core.Path.{_≡_, refl, sym, ap, _∙_, subst⁻¹, fun-ext}
 use mathlib.Core.Bool.{Bool, true, false, cond}
 use mathlib.Core.List.{List}
 use Prim.Native.Nat.{ℕ, zero, suc, _+_, _<_, _≤_}
@@ -8,7 +8,7 @@ use native.Mathlib.Decide.{ℕ-discrete, decLt}
 use native.Mathlib.Omega.{arith}
 use lib.Dec.{eqb, ltb, lit≤}
 use lib.ListN.{length, getD, set, take, replicate, length-set}
-use lib.Seq.{length-take-le, getD-take}
+use lib.Seq.{length-take-le}
 use borrow.Author.Tests.{eq-eqb, ne-eqb, lt-ltb, le-ltb}
 use Rattle.sets.specs.Sets.{capacity}
 use Rattle.posting.specs.declared.Posting.{Posting}
@@ -22,10 +22,10 @@ use Rattle.books.specs.declared.Figures.{Figures}
 use Rattle.books.specs.declared.Sheet.{Sheet}
 use Rattle.books.specs.Effect.{onNet, change, effect}
 use Rattle.books.specs.Books.{Books, blank, post, books, zeros, tabulate, figuresOn, sheetOf}
-use Rattle.books.specs.Bounds.{After, Room, Roomy, Opening, Postable}
+use Rattle.books.specs.Bounds.{Room, Roomy, Opening, Postable}
 use Rattle.books.proofs.Effects.{effect-touched, effect-untouched, effect-net-all, touches-neither}
-use Rattle.books.proofs.Bounds.{effect-after, later, room}
-use Rattle.books.proofs.Lines.{books-after, next-line}
+use Rattle.books.proofs.Bounds.{room}
+use Rattle.books.proofs.Lines.{books-after, lawful-take, next-line}
 use Rattle.books.proofs.Lists.{length-tabulate, getD-tabulate, is-tabulate, getD-changed, changed-both}
 
 -- ---- sheets
@@ -71,7 +71,7 @@ netted-next i s h sheet v is ev = rw (is, ev) (is-sheet (netted (i + 1) s) (set 
 pub netted-all : (s : Books) → sheetOf (netted accounts s) ≡ sheetOf (λ k. onNet (s k))
 netted-all s = same-sheet (netted accounts s) (λ k. onNet (s k)) (λ k h. rw (lt-ltb k accounts h))
 
--- ---- a line on the sheet: account a, then account b if that is another one
+-- ---- a posting at account a, then at account b if that is another one
 
 module _ (s : Books) (p : Posting) (both : (p .a < accounts) × (p .b < accounts)) where
   first-is : change (p .kind) p (p .a) (s (p .a)) ≡ effect p (p .a) (s (p .a))
@@ -86,49 +86,72 @@ module _ (s : Books) (p : Posting) (both : (p .a < accounts) × (p .b < accounts
         rw (ne-eqb (p .a) (p .b) ne, v) (sym (effect-touched p (p .b) (s (p .b)) (touches-second p (both .1))))
   ]
 
--- how the code begins line n, whose posting names its accounts: l is the sheet's accounts, those of the books s; p the posting; a the place of
--- its account a
-pub record Line (n : ℕ) (s : Books) (p : Posting) (l : List Figures) (a : ℕ) : Type 0 where
-  pub early : n < capacity
-  pub bounded : (k : ℕ) → k < accounts → After n (s k)
+-- ---- a line: posting p on the books s gives the books next, with room before and after; sheet is that of s
+
+pub record Line (s : Books) (p : Posting) (next : Books) (sheet : Sheet) : Type 0 where
   pub ok : Fields p
+  pub before : Roomy s
+  pub after : Roomy next
+  pub gives : post p s ≡ next
+  pub is : sheet ≡ sheetOf s
+
+module _ {s : Books} {p : Posting} {next : Books} {sheet : Sheet} (c : Line s p next sheet) where
+  figures-before : (k : ℕ) → k < accounts → figuresOn sheet k ≡ s k
+  figures-before k h = rw (c .is) (getD-tabulate accounts s zeros k h)
+
+  pub line-roomy : Roomy (figuresOn sheet)
+  line-roomy k h = rw (figures-before k h) (c .before k h)
+
+  -- a line that nets every account
+  pub line-nets-all : netsAll p ≡ true → sheetOf (λ k. onNet (figuresOn sheet k)) ≡ sheetOf next
+  line-nets-all e =
+      same-sheet (λ k. onNet (figuresOn sheet k)) (post p s) (λ k h. ap onNet (figures-before k h) ∙ sym (effect-net-all p k (s k) e h))
+      ∙ ap sheetOf (c .gives)
+
+-- a line whose posting names its accounts; a is the place of account a
+pub record Named (s : Books) (p : Posting) (next : Books) (sheet : Sheet) (a : ℕ) : Type 0 where
+  pub on : Line s p next sheet
   pub named : netsAll p ≡ false
-  pub from : l ≡ tabulate accounts s
   pub first : a ≡ p .a
 
-module _ {n : ℕ} {s : Books} {p : Posting} {l : List Figures} {a : ℕ} (c : Line n s p l a) where
+module _ {s : Books} {p : Posting} {next : Books} {sheet : Sheet} {a : ℕ} (c : Named s p next sheet a) where
   -- both are accounts
   pub line-accounts : (p .a < accounts) × (p .b < accounts)
-  line-accounts = named-accounts (p .kind) (p .a) (p .b) (c .ok .accounts-ok) (c .named)
+  line-accounts = named-accounts (p .kind) (p .a) (p .b) (c .on .ok .accounts-ok) (c .named)
 
-  at-a : getD l a zeros ≡ s (p .a)
-  at-a = rw (c .from, c .first) (getD-tabulate accounts s zeros (p .a) (line-accounts .0))
+  at-a : figuresOn sheet a ≡ s (p .a)
+  at-a = rw (c .first) (figures-before (c .on) (p .a) (line-accounts .0))
 
-  pub room-a : Room (getD l a zeros)
-  room-a = rw at-a (room capacity n (s (p .a)) (lit≤ tt) (omega arith) (c .bounded (p .a) (line-accounts .0)))
+  pub room-a : Room (figuresOn sheet a)
+  room-a = rw at-a (c .on .before (p .a) (line-accounts .0))
 
   -- t is stored at a; b is the place of account b
-  module _ (t : Figures) (b : ℕ) (et : t ≡ change (p .kind) p (p .a) (getD l a zeros)) (eb : b ≡ p .b) where
+  module _ (t : Figures) (b : ℕ) (et : t ≡ change (p .kind) p (p .a) (figuresOn sheet a)) (eb : b ≡ p .b) where
+    abbrev u : Figures
+    u = getD (set (sheet .accounts) a t) b zeros
+
     stored : t ≡ effect p (p .a) (s (p .a))
     stored = et ∙ rw at-a (first-is s p line-accounts)
 
-    at-b : getD (set l a t) b zeros ≡ cond (eqb (p .b) (p .a)) (effect p (p .a) (s (p .a))) (s (p .b))
-    at-b = rw (stored, c .from, c .first, eb) (getD-changed accounts s zeros (p .a) (effect p (p .a) (s (p .a))) (p .b) (line-accounts .1))
+    at-b : u ≡ cond (eqb (p .b) (p .a)) (effect p (p .a) (s (p .a))) (s (p .b))
+    at-b = rw (stored, c .on .is, c .first, eb) (getD-changed accounts s zeros (p .a) (effect p (p .a) (s (p .a))) (p .b) (line-accounts .1))
 
-    pub room-b : Room (getD (set l a t) b zeros)
-    room-b = rw at-b (room capacity (suc n) _ (lit≤ tt) (c .early) (go (eqb (p .b) (p .a))))
+    pub room-b : Room u
+    room-b = rw at-b (go (eqb (p .b) (p .a)))
       where
-        go : (t : Bool) → After (suc n) (cond t (effect p (p .a) (s (p .a))) (s (p .b)))
-        go true = effect-after n (s (p .a)) (c .bounded (p .a) (line-accounts .0)) p (p .a) (c .ok)
-        go false = later n (s (p .b)) (c .bounded (p .b) (line-accounts .1))
+        go : (t : Bool) → Room (cond t (effect p (p .a) (s (p .a))) (s (p .b)))
+        go true = subst⁻¹ Roomy (c .on .gives) (c .on .after) (p .a) (line-accounts .0)
+        go false = c .on .before (p .b) (line-accounts .1)
 
-    pub line : (v : Figures) → v ≡ cond (eqb (p .a) (p .b)) (getD (set l a t) b zeros) (change (p .kind) p (p .b) (getD (set l a t) b zeros))
-        → set (set l a t) b v ≡ tabulate accounts (post p s)
+    pub line : (v : Figures) → v ≡ cond (eqb (p .a) (p .b)) u (change (p .kind) p (p .b) u)
+        → record { accounts = set (set (sheet .accounts) a t) b v } ≡ sheetOf next
     line v ev =
-        let w : v ≡ effect p (p .b) (s (p .b)) = ev ∙ second-is s p line-accounts (getD (set l a t) b zeros) at-b in
-        rw (w, stored, c .from, c .first, eb)
+        let w : v ≡ effect p (p .b) (s (p .b)) = ev ∙ second-is s p line-accounts u at-b in
+        rw (w, stored, c .on .is, c .first, eb)
+        (ap (λ (x : List Figures). record { accounts = x })
         (changed-both accounts s (post p s) zeros (p .a) (p .b) (line-accounts .1)
         (λ k h na nb. sym (effect-untouched p k (s k) (touches-neither p k (c .named) na nb))))
+        ∙ ap sheetOf (c .on .gives))
 
 -- a sheet is that of its figures
 pub sheet-is : (sheet : Sheet) → length (sheet .accounts) ≡ accounts → sheet ≡ sheetOf (figuresOn sheet)
@@ -141,75 +164,40 @@ blank-opening k h = rw (getD-tabulate accounts blank zeros k h) (record { positi
 -- ---- a record that may be posted
 
 module _ (table : Table) (delivered : Record) (ok : Postable table delivered) where
-  line-within : (i : ℕ) → i < delivered .count → getD (delivered .numbers) i 0 < capacity
-  line-within i h = offered-below table (getD (delivered .numbers) i 0) (ok .lines i h) .1
-
   line-fields : (i : ℕ) → i < delivered .count → Fields (row table (getD (delivered .numbers) i 0))
   line-fields i h = fields (row table (getD (delivered .numbers) i 0)) (ok .rows (getD (delivered .numbers) i 0) (ok .lines i h))
 
-  lines-after : (s : Books) → Opening s → (i : ℕ) → i ≤ delivered .count → i ≤ length (delivered .numbers) → (k : ℕ) → k < accounts
-      → After i (books s table (take i (delivered .numbers)) k)
-  lines-after s h i within here k b =
-      let size : length (take i (delivered .numbers)) ≡ i = length-take-le i (delivered .numbers) here in
-      subst (λ (n : ℕ). After n (books s table (take i (delivered .numbers)) k)) (omega arith)
-      (books-after table (take i (delivered .numbers)) each 0 s k (h k b))
-    where
-      each : (j : ℕ) → j < length (take i (delivered .numbers)) → Fields (row table (getD (take i (delivered .numbers)) j 0))
-      each j l =
-          let m : j < i = omega (arith, length-take-le i (delivered .numbers) here) in
-          rw (getD-take i (delivered .numbers) j 0 m) (line-fields j (omega arith))
+  -- the posting number m of line i, as the code has it
+  pub number-within : (i : ℕ) → i < delivered .count → (m : ℕ) → m ≡ getD (delivered .numbers) i 0 → m < capacity
+  number-within i h m em = rw em (offered-below table (getD (delivered .numbers) i 0) (ok .lines i h) .1)
 
-  -- line i, from opening figures s; m is its posting number as the code has it
-  module _ (s : Books) (opens : Opening s) (long : length (delivered .numbers) ≡ capacity) (i : ℕ) (here : i < delivered .count) (m : ℕ)
-      (em : m ≡ getD (delivered .numbers) i 0) where
-    abbrev posting : Posting
-    posting = getD (table .rows) m noPosting
-
+  -- from opening figures s
+  module _ (s : Books) (opens : Opening s) (long : length (delivered .numbers) ≡ capacity) where
     -- the books of the first n lines
     abbrev books-to : ℕ → Books
     books-to n = books s table (take n (delivered .numbers))
 
-    pub number-within : m < capacity
-    number-within = rw em (line-within i here)
+    roomy-to : (n : ℕ) → n ≤ delivered .count → Roomy (books-to n)
+    roomy-to n h k b =
+        let here : n ≤ length (delivered .numbers) = omega (arith, ok .within, long) in
+        let size : length (take n (delivered .numbers)) ≡ n = length-take-le n (delivered .numbers) here in
+        let each = lawful-take table (delivered .numbers) n here (λ j l. line-fields j (omega arith)) in
+        room capacity (0 + length (take n (delivered .numbers))) (books-to n k) (lit≤ tt) (omega (arith, ok .within))
+        (books-after table (take n (delivered .numbers)) each 0 s k (opens k b))
 
-    posting-is : posting ≡ row table (getD (delivered .numbers) i 0)
+    pub line-of : (i : ℕ) → i < delivered .count → (m : ℕ) → m ≡ getD (delivered .numbers) i 0 → (sheet : Sheet) → sheet ≡ sheetOf (books-to i)
+        → Line (books-to i) (getD (table .rows) m noPosting) (books-to (i + 1)) sheet
     unfolding row
-    posting-is = ap (λ (k : ℕ). getD (table .rows) k noPosting) em
-
-    early : i < capacity
-    early = omega (arith, here, ok .within)
-
-    bounded : (k : ℕ) → k < accounts → After i (books-to i k)
-    bounded = lines-after s opens i (omega (arith, here)) (omega (arith, early, long))
-
-    pub line-begins : (l : List Figures) (a : ℕ) → netsAll posting ≡ false → l ≡ tabulate accounts (books-to i) → a ≡ posting .a
-        → Line i (books-to i) posting l a
-    line-begins l a named el ea = record {
-      early = early;
-      bounded = bounded;
-      ok = subst⁻¹ (λ (p : Posting). Fields p) posting-is (line-fields i here);
-      named = named;
-      from = el;
-      first = ea;
+    line-of i h m em sheet is = record {
+      ok = subst⁻¹ (λ (p : Posting). Fields p) posting-is (line-fields i h);
+      before = roomy-to i (omega arith);
+      after = roomy-to (i + 1) (omega arith);
+      gives = ap (λ (p : Posting). post p (books-to i)) posting-is ∙ next-line s table (delivered .numbers) i (omega (arith, ok .within, long));
+      is = is;
     }
-
-    pub line-posted : post posting (books-to i) ≡ books-to (i + 1)
-    line-posted = ap (λ (p : Posting). post p (books-to i)) posting-is ∙ next-line s table (delivered .numbers) i (omega (arith, early, long))
-
-    -- the sheet before the line
-    module _ (sheet : Sheet) (is : sheet ≡ sheetOf (books-to i)) where
-      figures-to : (k : ℕ) → k < accounts → figuresOn sheet k ≡ books-to i k
-      figures-to k h = rw is (getD-tabulate accounts (books-to i) zeros k h)
-
-      pub line-roomy : Roomy (figuresOn sheet)
-      line-roomy k h = rw (figures-to k h) (room capacity i (books-to i k) (lit≤ tt) (omega (arith, early)) (bounded k h))
-
-      -- a line that nets every account
-      pub line-nets-all : netsAll posting ≡ true → sheetOf (λ k. onNet (figuresOn sheet k)) ≡ sheetOf (books-to (i + 1))
-      line-nets-all e =
-          same-sheet (λ k. onNet (figuresOn sheet k)) (post posting (books-to i))
-          (λ k h. ap onNet (figures-to k h) ∙ sym (effect-net-all posting k (books-to i k) e h))
-          ∙ ap sheetOf line-posted
+      where
+        posting-is : getD (table .rows) m noPosting ≡ row table (getD (delivered .numbers) i 0)
+        posting-is = ap (λ (k : ℕ). getD (table .rows) k noPosting) em
 
 -- past the sixteen accounts zeros are read, too
 pub blank-figures : figuresOn (sheetOf blank) ≡ blank

@@ -142,7 +142,7 @@ pub fn change(p: Posting, k: u8, s: Figures) -> Figures
 }
 
 // What a posting does to the figures of its account b, if that is not a.
-fn change_b(p: Posting, s: Figures) -> Figures
+pub fn change_b(p: Posting, s: Figures) -> Figures
     requires { ⌜ Room s ⌝ }
     ensures { λ r. ⌜ r ≡ cond (eqb (p .a) (p .b)) s (change (p .kind) p (p .b) s) ⌝ }
 {
@@ -153,7 +153,7 @@ fn change_b(p: Posting, s: Figures) -> Figures
 }
 
 // Every account is netted.
-fn net_all(sheet: Sheet) -> Sheet
+pub fn net_all(sheet: Sheet) -> Sheet
     requires { ⌜ Roomy (figuresOn sheet) ⌝ }
     ensures { λ r. ⌜ r ≡ sheetOf (λ k. onNet (figuresOn sheet k)) ⌝ }
 {

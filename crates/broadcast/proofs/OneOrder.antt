@@ -7,13 +7,13 @@ use mathlib.Core.Bool.{Bool, true, false, not}
 use mathlib.Core.List.{List, [], _∷_, _++_, append-assoc}
 use native.Mathlib.Omega.{arith}
 use Rattle.broadcast.specs.Lists.{In, NoRepeat, Before, mem, Exchanges, keep, share, OneOrder}
-use Rattle.broadcast.specs.Deliveries.{once, members}
+use Rattle.broadcast.specs.Deliveries.{Ahead, once, members}
 use Rattle.broadcast.specs.Counts.{nowhere}
 use Rattle.broadcast.specs.Machine.{World, State, entryOf, expand}
 use Rattle.broadcast.specs.Runs.{Event, Reached}
 use Rattle.broadcast.proofs.Tests.{test, nope, not-true, same-or}
 use Rattle.broadcast.proofs.Counts.{nowhere-none}
-use Rattle.broadcast.proofs.Lists.{mem-in, in-mem, in-one, in-left, in-right, in-cases, before-left, before-right, keep-in, in-keep, keep-norepeat, keep-before, once-in, in-once, once-norepeat, once-before, Ahead, ahead-append, ahead-part, ahead-asym, ahead-past, ahead-here, keep-ahead, members-in, in-members}
+use Rattle.broadcast.proofs.Lists.{mem-in, in-mem, in-one, in-left, in-right, in-cases, before-left, before-right, keep-in, in-keep, keep-norepeat, keep-before, once-in, in-once, once-norepeat, once-before, ahead-append, ahead-part, ahead-asym, ahead-past, ahead-here, keep-ahead, members-in, in-members}
 use Rattle.broadcast.proofs.Exchange.{exchanges, exchanged-under}
 use Rattle.broadcast.proofs.Ending.{won, won-held, won-apart, entry-apart, entry-carries}
 use Rattle.broadcast.proofs.Safety.{Safe, safe, log-named, entry-named, got-named, stepped-named}

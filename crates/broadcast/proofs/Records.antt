@@ -10,14 +10,14 @@ use lib.Dec.{eqb, leb}
 use lib.ListN.{length, take, drop, getD, length-append, take-append-drop}
 use lib.Seq.{take-suc, take-append-le}
 use Rattle.broadcast.specs.Lists.{In, NoRepeat, Before, mem}
-use Rattle.broadcast.specs.Deliveries.{members, deliver, deliverAll}
+use Rattle.broadcast.specs.Deliveries.{Ahead, members, deliver, deliverAll}
 use Rattle.broadcast.specs.Machine.{World, Oracle, Sites, State, Cut, whole, part, at2, entryOf, expand, down, downIf, sendFirst, takeFirst, see, sendSecond, hearSecond, takeSecond, hearThird, takeThird, finish, takeDeliver, get, deliverAt, append, advance}
 use Rattle.broadcast.specs.Runs.{heardOf, lateSecond, lateThird, onOffer, onFirst, onSecond, onThird, onDeliver, onOrder, onRead, countThird, conclude, relay, arrive, Event, offer, first, second, third, order, read, crash, Allowed, does, blank, Reached, start, next}
 use Rattle.broadcast.proofs.Late.{third-in-time}
 use Rattle.broadcast.proofs.Steps.{conclude-entry-other, after-countSecond, after-conclude, after-relay}
 use Rattle.broadcast.proofs.Tests.{test, nope, either, and-l, from, stays, eqb-true, eqb-yes, eqb-no, at2-true, not-false}
 use Rattle.broadcast.proofs.Counts.{count-mono, majority-more, more-majority}
-use Rattle.broadcast.proofs.Lists.{mem-in, not-in, in-one, in-left, in-right, in-cases, before-append, before-join, norepeat-snoc, Ahead, ahead-part, ahead-last, deliver-old, deliver-new, deliver-cases, deliverAll-old, deliverAll-cases, members-in, members-ext}
+use Rattle.broadcast.proofs.Lists.{mem-in, not-in, in-one, in-left, in-right, in-cases, before-append, before-join, norepeat-snoc, ahead-part, ahead-last, deliver-old, deliver-new, deliver-cases, deliverAll-old, deliverAll-cases, members-in, members-ext}
 use Rattle.broadcast.proofs.Tallies.{Tallies}
 use Rattle.broadcast.proofs.Ending.{won}
 use Rattle.broadcast.proofs.Safety.{Safe, safe}

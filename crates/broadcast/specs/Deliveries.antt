@@ -1,6 +1,8 @@
 -- Lists of posting numbers as the theory uses them: first occurrences, members of a test, delivery into a record, postings applied in turn.
--- Proof machinery. Rests on Lists.
+-- Proof machinery, but for first occurrences, of which the audit's order is made. Rests on Lists.
 use Prim.Native.Nat.{ℕ, zero, suc}
+use mathlib.Core.Path.{_≡_}
+use mathlib.Core.Logic.{_⊎_, _≢_}
 use mathlib.Core.Bool.{Bool, cond, not}
 use mathlib.Core.List.{List, [], _∷_, _++_}
 use lib.Dec.{eqb}
@@ -10,6 +12,11 @@ use Rattle.broadcast.specs.Lists.{mem, keep}
 abbrev pub once : List ℕ → List ℕ
 once [] = []
 once (x ∷ l) = x ∷ keep (λ y. not (eqb y x)) (once l)
+
+-- x stands ahead of the first y (or y is not there and x is)
+abbrev pub Ahead : ℕ → ℕ → List ℕ → Type 0
+Ahead x y [] = ⊥
+Ahead x y (z ∷ l) = (z ≢ y) × ((x ≡ z) ⊎ Ahead x y l)
 
 -- the numbers below n that a test holds of, rising
 abbrev pub members : (ℕ → Bool) → ℕ → List ℕ

@@ -1,6 +1,7 @@
 // What other languages call: every function of the C interface, its body one call. include/board.h says in words what each takes and gives.
-// Rests on counted, by_value and by_bytes. Each function takes any arguments and refuses by an answer; a slice crosses as a pointer and a length.
+// Rests on counted, by_value, by_bytes, audit_records and audit_books. Each function takes any arguments and refuses by an answer; a slice crosses as a pointer and a length.
 ghost use mathlib.Core.Path.{_≡_};
+ghost use lib.ListN.{length};
 ghost use Rattle.posting.specs.Kinds.{fieldsOk, symmetric, hasFixedPairs};
 ghost use Rattle.posting.specs.Conflicts.{conflicting};
 ghost use Rattle.printer.specs.Writing.{slicePrinted, answerPrinted};
@@ -10,6 +11,8 @@ ghost use Rattle.counted.specs.Answers.{countOf};
 ghost use Rattle.counted.specs.Drains.{drainedFile};
 ghost use Rattle.counted.specs.Numbers.{numberedFile};
 ghost use Rattle.by_value.specs.Changed.{callChanged};
+ghost use Rattle.audit_records.specs.Audited.{audited, auditCode, auditSlice};
+ghost use Rattle.audit_books.specs.Figures.{figuresCode, figuresSlice};
 
 // ---- run files
 
@@ -171,4 +174,59 @@ pub extern "C" fn board_books_all(rows: &[u8], delivered: &[u8], out: &mut [i64]
     ensures { λ _. ⌜ now (out .exit) ≡ booksAllOut (now (rows .entry)) (now (delivered .entry)) (now (out .entry)) ⌝ }
 {
     by_bytes::books_all(rows, delivered, out)
+}
+
+// ---- records that were handed over
+
+// The audit of records that were handed over: 0 if they agree, else a refusal or what two postings show, with place and pair in the first eight
+// numbers of `out`. NO_ANSWER, and `out` as it was, if it is shorter than that. The other three slices lent hold anything after the call.
+#[no_mangle]
+pub extern "C" fn board_audit_records(
+    matrix: u16,
+    kinds: &[u8],
+    firsts: &[u8],
+    seconds: &[u8],
+    amounts: &[u32],
+    lines: &[u16],
+    ends: &[usize],
+    marks: &mut [u8],
+    places: &mut [u32],
+    ahead: &mut [u32],
+    out: &mut [u64],
+) -> u64
+    ensures { λ r. ⌜ r ≡ auditCode (audited matrix (now (kinds .entry)) (now (firsts .entry)) (now (seconds .entry)) (now (amounts .entry)) (now (lines .entry)) (now (ends .entry))
+        (length (now (marks .entry))) (length (now (places .entry))) (length (now (ahead .entry)))) (now (out .entry)) ⌝ }
+    ensures { λ _. ⌜ now (out .exit) ≡ auditSlice (audited matrix (now (kinds .entry)) (now (firsts .entry)) (now (seconds .entry)) (now (amounts .entry)) (now (lines .entry)) (now (ends .entry))
+        (length (now (marks .entry))) (length (now (places .entry))) (length (now (ahead .entry)))) (now (out .entry)) ⌝ }
+{
+    audit_records::audit_numbers(
+        matrix,
+        kinds,
+        firsts,
+        seconds,
+        amounts,
+        lines,
+        ends,
+        marks,
+        places,
+        ahead,
+        out,
+    )
+}
+
+// The books of a record that was handed over, from zeros, fill the first 64 numbers of the slice. The answer is 0, or the number of a refusal,
+// and the slice is as it was.
+#[no_mangle]
+pub extern "C" fn board_audit_figures(
+    kinds: &[u8],
+    firsts: &[u8],
+    seconds: &[u8],
+    amounts: &[u32],
+    lines: &[u16],
+    out: &mut [i64],
+) -> u8
+    ensures { λ r. ⌜ r ≡ figuresCode (now (kinds .entry)) (now (firsts .entry)) (now (seconds .entry)) (now (amounts .entry)) (now (lines .entry)) (length (now (out .entry))) ⌝ }
+    ensures { λ _. ⌜ now (out .exit) ≡ figuresSlice (now (kinds .entry)) (now (firsts .entry)) (now (seconds .entry)) (now (amounts .entry)) (now (lines .entry)) (now (out .entry)) ⌝ }
+{
+    audit_books::figures(kinds, firsts, seconds, amounts, lines, out)
 }

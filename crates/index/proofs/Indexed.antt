@@ -22,12 +22,12 @@ use Rattle.posting.specs.declared.Table.{Table}
 use Rattle.posting.specs.Kinds.{kinds, accounts, netOfAll, netsAll, accountsOk, matrixEntry}
 use Rattle.posting.proofs.KindLaws.{named-accounts}
 use Rattle.posting.specs.Conflicts.{noPosting, row, offeredBy, offered, tableWith, touches, shares, conflicting, conflict, conflictSet}
-use Rattle.posting.specs.Touched.{touchesSome}
+use Rattle.posting.specs.Touched.{touchesSome, everyRow, standsIn}
 use Rattle.posting.proofs.ConflictLaws.{touches-account, touches-all, touches-named, shares-fields, shares-all, has-conflict-set, conflict-set-shape}
 use Rattle.arrays.specs.Layout.{shownSlots, indexRows, kindSlots, setsLong, kindOf, kindAt, fromAt, intoAt}
 use Rattle.arrays.specs.Arrays.{slotSet, adding, byte}
 use Rattle.arrays.proofs.Slots.{long-added, slot-added-other, has-added, shape-added}
-use Rattle.index.specs.Index.{everyRow, rowFor, joinedIf, kindsTo, conflictsIn, enteredTo, indexing, standsIn, Indexed}
+use Rattle.index.specs.Index.{rowFor, joinedIf, kindsTo, conflictsIn, enteredTo, indexing, Indexed}
 
 -- ---- truth values
 

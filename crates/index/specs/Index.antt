@@ -10,14 +10,10 @@ use Rattle.sets.specs.Sets.{capacity, emptySet, has, with, join, Shape}
 use Rattle.posting.specs.declared.Posting.{Posting}
 use Rattle.posting.specs.declared.Table.{Table}
 use Rattle.posting.specs.Kinds.{kinds, accounts, netOfAll, matrixEntry}
-use Rattle.posting.specs.Conflicts.{row, offered, touches}
-use Rattle.posting.specs.Touched.{touchesSome}
+use Rattle.posting.specs.Conflicts.{row, offered}
+use Rattle.posting.specs.Touched.{everyRow, standsIn}
 use Rattle.arrays.specs.Layout.{indexRows, kindOf, kindAt, fromAt, intoAt}
 use Rattle.arrays.specs.Arrays.{slotSet, adding, byte}
-
--- the row of all, behind those of the accounts
-abbrev pub everyRow : ℕ
-everyRow = accounts
 
 -- the row to look in for an account of a posting, which nets every account or not; what is no account has no row
 unfoldable pub rowFor : Bool → ℕ → ℕ
@@ -53,10 +49,6 @@ unfoldable pub indexing : List ℕ → ℕ → ℕ → ℕ → ℕ → List ℕ
 indexing ws m kind a b =
     cond (netOfAll kind a b) (enteredTo ws m kind indexRows)
     (adding (adding (adding ws (kindOf a kind) m) (kindOf b kind) m) (kindOf everyRow kind) m)
-
--- a posting stands in a row: it touches the account, or, in the row of all, some account
-unfoldable pub standsIn : Posting → ℕ → Bool
-standsIn p line = cond (eqb line everyRow) (touchesSome p) (touches p line)
 
 -- The index is right: the slot of a row and kind holds the postings offered that stand in the row and have the kind
 pub record Indexed (ws : List ℕ) (t : Table) : Type 0 where

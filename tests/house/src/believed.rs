@@ -1,8 +1,9 @@
-// Holds: the files that must be believed: those of the statements of demand 3 and of W12, and of the public promises, with all that they use.
+// Holds: the files that must be believed: those of the statements of demand 3 and of W12, of the public promises, and of the audit, with all that
+// they use.
 // Rests on: names, promises, tree.
 
 use crate::names::{uses, Source};
-use crate::promises::{sources, FOR_TESTS, PROMISED};
+use crate::promises::{sources, AUDIT, FOR_TESTS, PROMISED};
 use crate::tree::{files, read, root};
 use std::collections::BTreeMap;
 
@@ -14,6 +15,12 @@ const STATEMENT: [&str; 2] = [
 
 /// The statement of one account at a time.
 const ACCOUNTS: &str = "crates/agreement/specs/Accounts.antt";
+
+/// The statement that the service's own records pass the audit.
+const PASSES: &str = "crates/audit_machine/specs/Passes.antt";
+
+/// The file of the exported functions.
+const EXPORTS: &str = "crates/exports/src/lib.rt";
 
 /// Of a file, or of the types that one declares: its lines, and those of them that define something.
 #[derive(Clone, Copy, Debug, Default, PartialEq, Eq)]
@@ -145,10 +152,22 @@ fn promised(without: &[&str]) -> Believed {
 
 /// Of both statements and of every promise of the service.
 pub fn service() -> Believed {
-    promised(&FOR_TESTS)
+    promised(&[FOR_TESTS.as_slice(), AUDIT.as_slice()].concat())
 }
 
-/// The same with what is exported for tests.
+/// Of the audit alone: the promises of its functions.
+pub fn audit() -> Believed {
+    let mut found = Believed::default();
+    let text = read(&root().join(EXPORTS));
+    for source in sources(&text, &AUDIT, &[]) {
+        found.take(EXPORTS, &source);
+    }
+    found
+}
+
+/// All: the service, what is exported for tests, and the audit.
 pub fn all() -> Believed {
-    promised(&[])
+    let mut found = promised(&[]);
+    found.take_file(PASSES.to_string());
+    found
 }

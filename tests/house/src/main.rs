@@ -1,7 +1,7 @@
 // Holds: prints what must be believed, a row a file, and how many lines it has.
 // Rests on: believed.
 
-use house::believed::{all, service, statement, Believed};
+use house::believed::{all, audit, service, statement, Believed};
 
 fn say(what: &str, found: &Believed) {
     let total = found.total();
@@ -21,7 +21,8 @@ fn main() {
         "with one account at a time and every promise of the service",
         &service(),
     );
-    say("with what is exported for tests", &found);
+    say("the audit alone", &audit());
+    say("all, with what is exported for tests", &found);
     for fault in &found.faults {
         println!("fault: {fault}");
     }

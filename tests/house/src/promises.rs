@@ -23,6 +23,9 @@ pub const PROMISED: [(&str, &[&str]); 9] = [
 /// Exported for tests alone: a board with one number changed takes a call. No caller of the service need believe it.
 pub const FOR_TESTS: [&str; 1] = ["board_call_changed"];
 
+/// The audit of records that come from elsewhere. It takes part in no step of the service, and the service in none of it.
+pub const AUDIT: [&str; 2] = ["board_audit_records", "board_audit_figures"];
+
 /// The name of the function that a line begins, if it is public.
 fn begins(line: &str) -> Option<&str> {
     let line = line.trim_start();

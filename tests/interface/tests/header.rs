@@ -11,7 +11,7 @@ const HEADER: &str = "include/board.h";
 const SOURCE: &str = "crates/exports/src/lib.rt";
 
 /// The header's numbers, and where the proved crates name them.
-const NAMED: [(&str, &str, &str); 15] = [
+const NAMED: [(&str, &str, &str); 22] = [
     ("BOARD_SITES", "masks/src/lib.rt", "SITES"),
     ("BOARD_POSTINGS", "sets/src/lib.rt", "POSTINGS"),
     ("BOARD_WORDS", "sets/src/lib.rt", "WORDS"),
@@ -27,6 +27,13 @@ const NAMED: [(&str, &str, &str); 15] = [
     ("BOARD_NO_SIZE", "by_bytes/src/lib.rt", "NO_SIZE"),
     ("BOARD_DRAIN_LIMIT", "statements/src/lib.rt", "DRAIN"),
     ("BOARD_TEXT", "runfile/proofs/Fits.antt", "bufferLength"),
+    ("BOARD_AUDIT_POSTINGS", "audit_input/src/lib.rt", "POSTINGS"),
+    ("BOARD_NO_KIND", "audit_input/src/lib.rt", "NO_KIND"),
+    ("BOARD_AUDIT_NUMBERS", "audit_records/src/lib.rt", "NUMBERS"),
+    ("BOARD_NO_ANSWER", "audit_records/src/lib.rt", "NO_ANSWER"),
+    ("BOARD_CROSSED", "audit_pair/src/lib.rt", "CROSSED"),
+    ("BOARD_MISSING", "audit_pair/src/lib.rt", "MISSING"),
+    ("BOARD_APART", "audit_pair/src/lib.rt", "APART"),
 ];
 
 /// Those that the crates make of others, and so the model has.

@@ -2,8 +2,6 @@
 -- Assumes nothing.
 use mathlib.Core.Path.{_≡_, sym, ap, _∙_}
 use mathlib.Core.Logic.{⊎-elim}
-use mathlib.Core.Bool.{true, false}
-use mathlib.Core.List.{List}
 use Prim.Native.Nat.{ℕ, _+_, _≤_, _<_, _-_}
 use native.Mathlib.Omega.{arith}
 use lib.ListN.{length, length-map, getD, take}
@@ -12,15 +10,13 @@ use Rattle.sets.specs.Sets.{capacity}
 use Rattle.posting.specs.declared.Posting.{Posting}
 use Rattle.posting.specs.declared.Table.{Table}
 use Rattle.posting.specs.declared.Record.{Record}
-use Rattle.posting.specs.Kinds.{accounts, netsAll}
+use Rattle.posting.specs.Kinds.{accounts}
 use Rattle.posting.specs.Records.{numbersOf}
 use Rattle.posting.specs.Conflicts.{noPosting}
-use Rattle.books.specs.Effect.{onNet}
-use Rattle.books.specs.Books.{Books, post, books, figuresOn, sheetOf}
-use Rattle.books.specs.declared.Figures.{Figures}
+use Rattle.books.specs.Books.{Books, books, figuresOn, sheetOf}
 use Rattle.books.specs.declared.Sheet.{Sheet}
-use Rattle.books.specs.Bounds.{Roomy, Opening, Postable}
-use Rattle.books.proofs.Sheets.{Line, line, line-accounts, room-a, room-b, sheet-is, number-within, line-begins, line-posted, line-roomy, line-nets-all}
+use Rattle.books.specs.Bounds.{Opening, Postable}
+use Rattle.books.proofs.Sheets.{Line, Named, line, line-accounts, line-roomy, line-nets-all, room-a, room-b, sheet-is, number-within, line-of}
 use Rattle.books.proofs.posted.Statement.{statement}
 use Rattle.books.proofs.posted.Tie as tie
 
@@ -65,31 +61,23 @@ module _ (c : tie.After-wide Inv-loop μ-loop) where
   long : length (delivered .numbers) ≡ capacity
   long = search needs
 
-  is : sheet ≡ sheetOf (books-to i)
-  is = c .before .before .before .loop .inv .1
-
   within : c .wide .result < capacity
-  within = number-within table delivered postable opening opens long i here _ (c .wide .ensures)
+  within = number-within table delivered postable i here _ (c .wide .ensures)
 
-  begins : (a : ℕ) → netsAll posting ≡ false → a ≡ posting .a → Line i (books-to i) posting (sheet .accounts) a
-  begins a named ea = line-begins table delivered postable opening opens long i here _ (c .wide .ensures) _ a named (ap (λ (x : Sheet). x .accounts) is) ea
-
-  next : post posting (books-to i) ≡ books-to (i + 1)
-  next = line-posted table delivered postable opening opens long i here _ (c .wide .ensures)
-
-  roomy : Roomy (figuresOn sheet)
-  roomy = line-roomy table delivered postable opening opens long i here _ (c .wide .ensures) sheet is
-
-  nets-all : netsAll posting ≡ true → sheetOf (λ k. onNet (figuresOn sheet k)) ≡ sheetOf (books-to (i + 1))
-  nets-all = line-nets-all table delivered postable opening opens long i here _ (c .wide .ensures) sheet is
+  on-line : Line (books-to i) posting (books-to (i + 1)) sheet
+  on-line = line-of table delivered postable opening opens long i here _ (c .wide .ensures) sheet (c .before .before .before .loop .inv .1)
 
 -- a line that names its accounts
 module _ (c : tie.After-wide2 Inv-loop μ-loop) where
   abbrev at-wide : tie.After-wide Inv-loop μ-loop
   at-wide = c .before .before .before .before
 
-  start : Line (i at-wide) (books-to at-wide (i at-wide)) (posting at-wide) (sheet at-wide .accounts) (c .wide2 .result)
-  start = begins at-wide _ (sym (c .before .before .net-of-all .ensures) ∙ c .before .if1 .left) (c .wide2 .ensures)
+  start : Named (books-to at-wide (i at-wide)) (posting at-wide) (books-to at-wide (i at-wide + 1)) (sheet at-wide) (c .wide2 .result)
+  start = record {
+    on = on-line at-wide;
+    named = sym (c .before .before .net-of-all .ensures) ∙ c .before .if1 .left;
+    first = c .wide2 .ensures;
+  }
 
   a-within : c .wide2 .result < accounts
   a-within = omega (arith, line-accounts start .0, c .wide2 .ensures)
@@ -120,7 +108,7 @@ net-of-all-requires : tie.Need-net-of-all-requires Inv-loop μ-loop
 net-of-all-requires c κs = search needs
 
 net-all-requires : tie.Need-net-all-requires Inv-loop μ-loop
-net-all-requires c κs = roomy (c .before .before .before)
+net-all-requires c κs = line-roomy (on-line (c .before .before .before))
 
 wide-requires-2 : tie.Need-wide-requires-2 Inv-loop μ-loop
 wide-requires-2 c κs = search needs
@@ -172,11 +160,10 @@ loop-again c =
     let at-wide = c .before .before .before in (
       omega (arith, here at-wide),
       ⊎-elim
-          (λ w. w .2 ∙ w .1 .ensures ∙ nets-all at-wide (sym (c .before .net-of-all .ensures) ∙ w .0 .taken))
+          (λ w. w .2 ∙ w .1 .ensures ∙ line-nets-all (on-line at-wide) (sym (c .before .net-of-all .ensures) ∙ w .0 .taken))
           (λ w.
           let begun : tie.After-wide2 Inv-loop μ-loop = record { before = record { before = c .before; if1 = w .0 }; wide2 = w .1 } in
-          let l = line (start begun) (w .3 .result) (w .4 .result) (w .3 .ensures) (w .4 .ensures) (w .6 .result) (w .6 .ensures) in
-          w .7 ∙ ap (λ (x : List Figures). record { accounts = x }) l ∙ ap sheetOf (next at-wide))
+          w .7 ∙ line (start begun) (w .3 .result) (w .4 .result) (w .3 .ensures) (w .4 .ensures) (w .6 .result) (w .6 .ensures))
           (c .if1 .came),
     )
 

@@ -1,0 +1,171 @@
+// Holds: what an audit of records costs: by the twin's reading, by the proved one, and by a scan of all pairs.
+// Rests on: main, clock, records; the model's random numbers, the plain twin, and the static library that programs links.
+
+use crate::clock::{in_turns, Samples, Timed};
+use crate::records::Records;
+use model::prng::Prng;
+use plain::audit::{audit_records, pairs_agree, Handed, Lent, FILLED};
+use std::hint::black_box;
+use std::time::Instant;
+
+const SEED: u64 = 1;
+
+/// The scan of pairs is quadratic: above this it is left out.
+const SCANNED: usize = 20_000;
+
+type Audits = fn(&Handed, &mut Lent, &mut [u64]) -> u64;
+
+mod library {
+    extern "C" {
+        pub fn board_audit_records(
+            matrix: u16,
+            kinds: *const u8,
+            kinds_len: usize,
+            firsts: *const u8,
+            firsts_len: usize,
+            seconds: *const u8,
+            seconds_len: usize,
+            amounts: *const u32,
+            amounts_len: usize,
+            lines: *const u16,
+            lines_len: usize,
+            ends: *const usize,
+            ends_len: usize,
+            marks: *mut u8,
+            marks_len: usize,
+            places: *mut u32,
+            places_len: usize,
+            ahead: *mut u32,
+            ahead_len: usize,
+            out: *mut u64,
+            out_len: usize,
+        ) -> u64;
+    }
+}
+
+fn proved(handed: &Handed, lent: &mut Lent, out: &mut [u64]) -> u64 {
+    // Sound: the function takes any numbers, and of a slice its pointer and its length.
+    unsafe {
+        library::board_audit_records(
+            handed.matrix,
+            handed.kinds.as_ptr(),
+            handed.kinds.len(),
+            handed.firsts.as_ptr(),
+            handed.firsts.len(),
+            handed.seconds.as_ptr(),
+            handed.seconds.len(),
+            handed.amounts.as_ptr(),
+            handed.amounts.len(),
+            handed.lines.as_ptr(),
+            handed.lines.len(),
+            handed.ends.as_ptr(),
+            handed.ends.len(),
+            lent.marks.as_mut_ptr(),
+            lent.marks.len(),
+            lent.places.as_mut_ptr(),
+            lent.places.len(),
+            lent.ahead.as_mut_ptr(),
+            lent.ahead.len(),
+            out.as_mut_ptr(),
+            out.len(),
+        )
+    }
+}
+
+const SIDES: [(&str, Audits); 2] = [("twin", audit_records), ("proved", proved)];
+
+/// Slices to lend.
+struct Room {
+    marks: Vec<u8>,
+    places: Vec<u32>,
+    ahead: Vec<u32>,
+}
+
+impl Room {
+    fn new(numbers: usize) -> Room {
+        Room {
+            marks: vec![0; numbers],
+            places: vec![0; numbers],
+            ahead: vec![0; 8 * numbers],
+        }
+    }
+
+    fn lend(&mut self) -> Lent<'_> {
+        Lent {
+            marks: &mut self.marks,
+            places: &mut self.places,
+            ahead: &mut self.ahead,
+        }
+    }
+}
+
+/// The code and the numbers of an answer.
+fn answer(side: Audits, records: &Records) -> (u64, [u64; FILLED]) {
+    let mut out = [0; FILLED];
+    let mut room = Room::new(records.postings.len());
+    let code = side(&records.handed(), &mut room.lend(), &mut out);
+    (code, out)
+}
+
+/// All audits of the records, as often as it is called; a line is an event.
+fn audits(side: Audits, records: &Records) -> Timed<'_> {
+    let mut room = Room::new(records.postings.len());
+    let mut out = [0; FILLED];
+    let work = move || {
+        let handed = records.handed();
+        black_box(side(black_box(&handed), &mut room.lend(), &mut out));
+    };
+    (records.lines.len() as u64, Box::new(work))
+}
+
+/// The scan of pairs, once.
+fn scan(records: &Records) -> String {
+    if records.postings.len() > SCANNED {
+        return "-".to_string();
+    }
+    let start = Instant::now();
+    let agree = pairs_agree(&records.handed());
+    let taken = start.elapsed();
+    assert_eq!(agree, answer(audit_records, records).0 == 0);
+    taken.as_micros().to_string()
+}
+
+fn cases() -> Vec<(&'static str, Records)> {
+    let mut rng = Prng::new(SEED);
+    let mut cases = Vec::new();
+    for count in [5_000, SCANNED, 65_536] {
+        cases.push(("agree", Records::new(&mut rng, count, None)));
+    }
+    let nets_all = Records::new(&mut rng, 65_536, Some(10));
+    cases.push(("a tenth nets all", nets_all));
+    let fault = Records::new(&mut rng, 65_536, None).with_a_fault();
+    cases.push(("a fault at the end", fault));
+    cases
+}
+
+/// One line for each case: µs an audit and ns a line on each side, the proved side against the twin, and the scan of pairs.
+pub fn table() {
+    println!("Audits: the records of seven sites judged and read. µs an audit, ns a line; the scan of pairs once.\n");
+    print!("records             postings   lines");
+    for (name, _) in SIDES {
+        print!("  {name:>10}  ns a line");
+    }
+    print!("  {:>12}    from      to", "proved/twin");
+    println!("  {:>10}", "pairs");
+    for (name, records) in cases() {
+        let answers = SIDES.map(|(_, side)| answer(side, &records));
+        assert_eq!(answers[0], answers[1], "{name}");
+        let faulty = name.starts_with("a fault");
+        assert_eq!(answers[0].0 != 0, faulty, "{name}");
+        let (postings, lines) = (records.postings.len(), records.lines.len());
+        print!("{name:18}  {postings:8}  {lines:6}");
+        let speeds: Vec<Samples> = in_turns(&mut SIDES.map(|(_, side)| audits(side, &records)));
+        for speed in &speeds {
+            let (whole, line) = (1e6 * lines as f64 / speed.best(), 1e9 / speed.best());
+            print!("  {whole:10.0}  {line:9.2}");
+        }
+        crate::ratio(&speeds[1], &speeds[0]);
+        println!("  {:>10}", scan(&records));
+    }
+    println!();
+}

