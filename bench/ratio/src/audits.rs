@@ -1,5 +1,5 @@
 // Holds: what an audit of records costs: by the twin's reading, by the proved one, and by a scan of all pairs.
-// Rests on: main, clock, records; the model's random numbers, the plain twin, and the static library that programs links.
+// Rests on: main, clock, records; the model's random numbers, the plain twin, the declarations of tests/audit, and the static library that programs links.
 
 use crate::clock::{in_turns, Samples, Timed};
 use crate::records::Records;
@@ -15,33 +15,10 @@ const SCANNED: usize = 20_000;
 
 type Audits = fn(&Handed, &mut Lent, &mut [u64]) -> u64;
 
-mod library {
-    extern "C" {
-        pub fn board_audit_records(
-            matrix: u16,
-            kinds: *const u8,
-            kinds_len: usize,
-            firsts: *const u8,
-            firsts_len: usize,
-            seconds: *const u8,
-            seconds_len: usize,
-            amounts: *const u32,
-            amounts_len: usize,
-            lines: *const u16,
-            lines_len: usize,
-            ends: *const usize,
-            ends_len: usize,
-            marks: *mut u8,
-            marks_len: usize,
-            places: *mut u32,
-            places_len: usize,
-            ahead: *mut u32,
-            ahead_len: usize,
-            out: *mut u64,
-            out_len: usize,
-        ) -> u64;
-    }
-}
+/// Only one of its functions is timed.
+#[allow(dead_code)]
+#[path = "../../../tests/audit/src/library.rs"]
+mod library;
 
 fn proved(handed: &Handed, lent: &mut Lent, out: &mut [u64]) -> u64 {
     // Sound: the function takes any numbers, and of a slice its pointer and its length.

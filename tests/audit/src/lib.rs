@@ -9,6 +9,7 @@ pub mod handed;
 pub mod harm;
 pub mod judge;
 pub mod large;
+mod library;
 pub mod order;
 pub mod pairs;
 pub mod proved;

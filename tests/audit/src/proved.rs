@@ -1,50 +1,9 @@
 // Holds: the audit's functions of the static library as safe functions over slices.
-// Rests on: answer, handed; the static library of the proved crate exports, whose contracts its source states.
+// Rests on: answer, handed, library; the static library of the proved crate exports, whose contracts its source states.
 
 use crate::answer::{Answer, FILLED, NO_ROOM};
 use crate::handed::{Handed, Lent};
-
-mod library {
-    extern "C" {
-        pub fn board_audit_records(
-            matrix: u16,
-            kinds: *const u8,
-            kinds_len: usize,
-            firsts: *const u8,
-            firsts_len: usize,
-            seconds: *const u8,
-            seconds_len: usize,
-            amounts: *const u32,
-            amounts_len: usize,
-            lines: *const u16,
-            lines_len: usize,
-            ends: *const usize,
-            ends_len: usize,
-            marks: *mut u8,
-            marks_len: usize,
-            places: *mut u32,
-            places_len: usize,
-            ahead: *mut u32,
-            ahead_len: usize,
-            out: *mut u64,
-            out_len: usize,
-        ) -> u64;
-        pub fn board_audit_figures(
-            kinds: *const u8,
-            kinds_len: usize,
-            firsts: *const u8,
-            firsts_len: usize,
-            seconds: *const u8,
-            seconds_len: usize,
-            amounts: *const u32,
-            amounts_len: usize,
-            lines: *const u16,
-            lines_len: usize,
-            out: *mut i64,
-            out_len: usize,
-        ) -> u8;
-    }
-}
+use crate::library;
 
 // Both functions take any numbers, and of a slice its pointer and its length, which they neither keep nor pass:
 // so each call below is sound.
