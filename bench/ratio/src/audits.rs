@@ -1,5 +1,5 @@
 // Holds: what an audit of records costs: by the twin's reading, by the proved one, and by a scan of all pairs.
-// Rests on: main, clock, records; the model's random numbers, the plain twin, the declarations of tests/audit, and the static library that programs links.
+// Rests on: main, clock, records; the model's random numbers, the plain twin, the functions of tests/audit over slices, and the static library that programs links.
 
 use crate::clock::{in_turns, Samples, Timed};
 use crate::records::Records;
@@ -21,32 +21,15 @@ type Audits = fn(&Handed, &mut Lent, &mut [u64]) -> u64;
 mod library;
 
 fn proved(handed: &Handed, lent: &mut Lent, out: &mut [u64]) -> u64 {
-    // Sound: the function takes any numbers, and of a slice its pointer and its length.
-    unsafe {
-        library::board_audit_records(
-            handed.matrix,
-            handed.kinds.as_ptr(),
-            handed.kinds.len(),
-            handed.firsts.as_ptr(),
-            handed.firsts.len(),
-            handed.seconds.as_ptr(),
-            handed.seconds.len(),
-            handed.amounts.as_ptr(),
-            handed.amounts.len(),
-            handed.lines.as_ptr(),
-            handed.lines.len(),
-            handed.ends.as_ptr(),
-            handed.ends.len(),
-            lent.marks.as_mut_ptr(),
-            lent.marks.len(),
-            lent.places.as_mut_ptr(),
-            lent.places.len(),
-            lent.ahead.as_mut_ptr(),
-            lent.ahead.len(),
-            out.as_mut_ptr(),
-            out.len(),
-        )
-    }
+    let fields = library::Fields {
+        kinds: handed.kinds,
+        firsts: handed.firsts,
+        seconds: handed.seconds,
+        amounts: handed.amounts,
+    };
+    let records = (handed.lines, handed.ends);
+    let room = (&mut *lent.marks, &mut *lent.places, &mut *lent.ahead);
+    library::audit_records(handed.matrix, fields, records, room, out)
 }
 
 const SIDES: [(&str, Audits); 2] = [("twin", audit_records), ("proved", proved)];
