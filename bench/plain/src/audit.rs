@@ -5,6 +5,7 @@ mod judge;
 mod pair;
 mod reading;
 
+pub(crate) use judge::{in_row, matrix_ok, FIXED_PAIRS};
 pub use pair::pairs_agree;
 
 /// How many numbers an answer fills in, and the answer where there is no room for them.
@@ -42,7 +43,7 @@ struct Answer {
 }
 
 /// Whether a posting nets every account.
-fn nets_all(kind: u8, a: u8, b: u8) -> bool {
+pub(crate) fn nets_all(kind: u8, a: u8, b: u8) -> bool {
     kind == NET && a == EVERY_ACCOUNT && b == EVERY_ACCOUNT
 }
 

@@ -1,5 +1,5 @@
-// Holds: the benchmark: tables of speeds and ratios for run files, drains, events alone, calls and audits, and one of memory.
-// Rests on: audits, calls, cases, sides, clock, memory.
+// Holds: the benchmark: tables of speeds and ratios for run files, drains, events alone, calls, audits and programs that audit files, and one of memory.
+// Rests on: audits, calls, cases, sides, clock, memory, processes.
 //
 // All sides get the same bytes, made beforehand, in the same process, and take turns. A call has all of its work
 // in it: the file is decoded, its events are done, and the text or the books are written. Slices that are lent
@@ -13,6 +13,8 @@ mod cases;
 mod clock;
 mod conflicts;
 mod memory;
+#[cfg(not(feature = "model-only"))]
+mod processes;
 #[cfg(not(feature = "model-only"))]
 mod records;
 mod sides;
@@ -29,8 +31,13 @@ enum Unit {
 }
 
 fn main() {
-    if let Some(name) = std::env::args().nth(1) {
-        return memory::show_own(&name);
+    let words: Vec<String> = std::env::args().skip(1).collect();
+    #[cfg(not(feature = "model-only"))]
+    if processes::be_twin(&words) {
+        return;
+    }
+    if let Some(name) = words.first() {
+        return memory::show_own(name);
     }
     let cases = cases();
     for side in &SIDES {
@@ -52,6 +59,8 @@ fn main() {
     calls::table();
     #[cfg(not(feature = "model-only"))]
     audits::table();
+    #[cfg(not(feature = "model-only"))]
+    processes::table();
     memory::table(largest(&cases));
 }
 

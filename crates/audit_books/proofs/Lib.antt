@@ -3,3 +3,4 @@
 pub mod Growth
 pub mod Sheets
 pub mod Judged
+pub mod Blocks

@@ -2,17 +2,19 @@
 // Rests on books for what a posting does to an account, and on audit_input for what is refused.
 ghost use mathlib.Core.Path.{_≡_};
 ghost use mathlib.Core.List.{_++_};
-ghost use Prim.Native.Nat.{_≤_};
+ghost use Prim.Native.Nat.{_*_, _<_, _≤_};
 ghost use lib.ListN.{length, drop};
 ghost use Rattle.books.specs.Books.{books, blank, numbers, sheetOf};
 ghost use Rattle.audit_rule.specs.Handed.{tableOf};
 ghost use Rattle.audit_books.specs.Lines.{Postable};
 ghost use Rattle.audit_books.specs.Figures.{figuresCode, figuresSlice};
+ghost use Rattle.audit_books.specs.All.{numbersOfSite, numbersOfAll, AllPostable};
 use audit_input::BAD_FIELDS;
 use audit_input::BAD_SIZES;
 use audit_input::UNKNOWN;
 use audit_input::fields_long;
 use audit_input::first_unlawful;
+use audit_input::start_of;
 use audit_input::unknown_line;
 use books::FIGURES;
 use books::Sheet;
@@ -129,4 +131,51 @@ pub fn figures(
         figures_of(kinds, firsts, seconds, amounts, lines, out);
     }
     code
+}
+
+// The books of site p's record fill the first 64 numbers of the slice.
+fn site_figures(
+    kinds: &[u8],
+    firsts: &[u8],
+    seconds: &[u8],
+    amounts: &[u32],
+    lines: &[u16],
+    ends: &[usize],
+    p: usize,
+    out: &mut [i64],
+)
+    requires { ⌜ AllPostable (now kinds) (now firsts) (now seconds) (now amounts) (now lines) (now ends) × (p < length (now ends)) × (64 ≤ length (now out)) ⌝ }
+    ensures { λ _. ⌜ now (out .exit) ≡ numbersOfSite (now (kinds .entry)) (now (firsts .entry)) (now (seconds .entry)) (now (amounts .entry)) (now (lines .entry)) (now (ends .entry)) p ++ drop 64 (now (out .entry)) ⌝ }
+{
+    let from = start_of(ends, p);
+    let to = ends[p];
+    figures_of(kinds, firsts, seconds, amounts, &lines[from..to], out);
+}
+
+// The books of all records: the part of the slice from 64 p on is lent on for site p.
+pub fn figures_all(
+    kinds: &[u8],
+    firsts: &[u8],
+    seconds: &[u8],
+    amounts: &[u32],
+    lines: &[u16],
+    ends: &[usize],
+    out: &mut [i64],
+)
+    requires { ⌜ AllPostable (now kinds) (now firsts) (now seconds) (now amounts) (now lines) (now ends) × (64 * length (now ends) ≤ length (now out)) ⌝ }
+    ensures { λ _. ⌜ now (out .exit) ≡ numbersOfAll (now (kinds .entry)) (now (firsts .entry)) (now (seconds .entry)) (now (amounts .entry)) (now (lines .entry)) (now (ends .entry)) (length (now (ends .entry))) ++ drop (64 * length (now (ends .entry))) (now (out .entry)) ⌝ }
+{
+    for p in 0..ends.len() {
+        let at = 64 * p;
+        site_figures(
+            kinds,
+            firsts,
+            seconds,
+            amounts,
+            lines,
+            ends,
+            p,
+            &mut out[at..],
+        );
+    }
 }

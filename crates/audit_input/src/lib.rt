@@ -82,7 +82,7 @@ fn sites_ok(ends: &[usize]) -> bool
 }
 
 // Whether the matrix is symmetric and has the fixed pairs.
-fn matrix_ok(matrix: u16) -> bool
+pub fn matrix_ok(matrix: u16) -> bool
     ensures { λ r. ⌜ r ≡ matrixOk matrix ⌝ }
 {
     if posting::symmetric(matrix) {
@@ -139,7 +139,7 @@ fn lent_long(kinds: usize, marks: usize, places: usize, ahead: usize) -> bool
 }
 
 // Whether a number has no posting, past the slices too.
-fn unused(kinds: &[u8], x: usize) -> bool
+pub fn unused(kinds: &[u8], x: usize) -> bool
     ensures { λ r. ⌜ r ≡ unused (now (kinds .entry)) x ⌝ }
 {
     if kinds.len() <= x {

@@ -38,7 +38,7 @@ use Rattle.audit_records.specs.Needs.{shown, PairAt}
 -- ---- how many lines there can be
 
 -- numbers below n, none twice, are at most n
-below-few : (n : ℕ) (l : List ℕ) → NoRepeat l → ((x : ℕ) → In x l → x < n) → length l ≤ n
+pub below-few : (n : ℕ) (l : List ℕ) → NoRepeat l → ((x : ℕ) → In x l → x < n) → length l ≤ n
 below-few n l single below =
     let few = within-length l (tabulate n (λ k. k)) single (λ x m. there x (below x m)) in
     let long = length-tabulate n (λ (k : ℕ). k) in omega (arith, few, long)

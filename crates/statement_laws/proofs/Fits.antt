@@ -30,7 +30,8 @@ use Rattle.printer.proofs.Lengths.{decimal-length, three-digits, state-length}
 use Rattle.printer.proofs.Writing.{fits-written}
 use Rattle.runfile.proofs.Programs.{start-accepted}
 use Rattle.runfile.proofs.Fits.{bufferLength, start-small, refused-length}
-use Rattle.statements.specs.Table.{positionWord, rateWord, calledWord, settledWord, accountAt, isBlank, signed, accountLine, accountPart, accountLines, hasNone, siteHeading, accountsPart, sitePart, siteParts, allAgree, closingLine, statementText}
+use Rattle.amounts.specs.Amounts.{signed}
+use Rattle.statements.specs.Table.{positionWord, rateWord, calledWord, settledWord, accountAt, isBlank, accountLine, accountPart, accountLines, hasNone, siteHeading, accountsPart, sitePart, siteParts, allAgree, closingLine, statementText}
 use Rattle.statements.specs.Statement.{statementOf, statedRun, statedFrom, stated}
 use Rattle.statement_laws.proofs.Same.{last-good}
 

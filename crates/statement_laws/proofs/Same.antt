@@ -39,7 +39,8 @@ use Rattle.agreement.proofs.Along.{run-earlier}
 use Rattle.agreement.proofs.Proved.{run-append, books-agree}
 use Rattle.agreement.proofs.Drained.{drain-says-reached}
 use Rattle.decoder.specs.RunFile.{setupOf, wellFormed, callsOf}
-use Rattle.statements.specs.Table.{sameWords, figureAt, accountAt, siteParts, sameNumber, sameAccount, sameSite, agree, agreeWith, allAgree, statementText}
+use Rattle.amounts.specs.Amounts.{sameNumber}
+use Rattle.statements.specs.Table.{sameWords, figureAt, accountAt, siteParts, sameAccount, sameSite, agree, agreeWith, allAgree, statementText}
 use Rattle.statements.specs.Statement.{statementOf, statedRun, statedFrom, stated}
 
 -- ---- figures that are the same

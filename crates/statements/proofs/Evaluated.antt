@@ -1,12 +1,13 @@
 -- A statement of three sites, evaluated: the definitions compute to the text that the example says.
--- Rests on the Computes of machine and runfile. Assumes nothing.
+-- Rests on amounts, and on the Computes of machine and runfile. Assumes nothing.
 use mathlib.Core.Path.{_≡_, refl}
 use mathlib.Core.Bool.{Bool, true, false}
 use mathlib.Core.List.{[], _∷_}
 use lib.ListN.{length}
 use Rattle.machine.proofs.Computes.{of-sets}
 use Rattle.runfile.proofs.Computes.{of-decoder, of-printer}
-use Rattle.statements.specs.Table.{accountAt, isBlank, signed, accountLine, accountPart, accountLines, hasNone, siteHeading, accountsPart, sitePart, siteParts, sameNumber, sameAccount, sameSite, agree, agreeWith, allAgree, statementText}
+use Rattle.amounts.specs.Amounts.{signed, sameNumber}
+use Rattle.statements.specs.Table.{accountAt, isBlank, accountLine, accountPart, accountLines, hasNone, siteHeading, accountsPart, sitePart, siteParts, sameAccount, sameSite, agree, agreeWith, allAgree, statementText}
 use Rattle.statements.specs.Statement.{stated}
 use Rattle.statements.specs.Examples.{siteFigures, threeFigures, threeText}
 

@@ -1,5 +1,4 @@
 -- What the proofs of statements share, and the evaluated case.
 -- Rests on the specs. Assumes nothing.
-pub mod Figures
 pub mod Stated
 pub mod Evaluated

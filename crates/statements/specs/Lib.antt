@@ -1,5 +1,5 @@
 -- Statement: what the program prints. Examples: a statement by its numbers and bytes.
--- Rests on figures_table, decoder, printer, drain and machine.
+-- Rests on amounts, decoder, printer, drain and machine.
 pub mod Table
 pub mod Statement
 pub mod Examples

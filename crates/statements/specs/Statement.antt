@@ -1,5 +1,5 @@
 -- What `statement` prints: once the board is quiet, the table of the figures of every site.
--- Rests on figures_table for the lines, on decoder for files, on printer for a refusal, on machine and drain.
+-- Rests on Table for the lines, on decoder for files, on printer for a refusal, on machine and drain.
 use Prim.Native.Nat.{ℕ}
 use mathlib.Core.Bool.{cond}
 use mathlib.Core.List.{List}

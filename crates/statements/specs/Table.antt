@@ -1,16 +1,16 @@
 -- The table of figures as a statement shows it: the lines of every site, account by account, and whether the sites that are up show the same.
--- Rests on printer for numbers and words, on books, posting and sets. Figures are a list of numbers; no board is spoken of.
+-- Rests on amounts and printer for numbers and words, on books, posting and sets. Figures are a list of numbers; no board is spoken of.
 use Prim.Native.Nat.{ℕ, zero, suc, _+_, _*_}
-use mathlib.Core.Bool.{Bool, false, cond, _&&_, _||_}
+use mathlib.Core.Bool.{Bool, cond, _&&_, _||_}
 use mathlib.Core.List.{List, [], _∷_, _++_}
-use lib.Dec.{eqb}
-use lib.IntN.{ℤ, pos, negsuc, natAbs}
+use lib.IntN.{ℤ, pos}
 use lib.ListN.{getD}
 use Rattle.sets.specs.Below.{allBelow}
 use Rattle.sets.specs.Masks.{hasBit}
 use Rattle.posting.specs.Kinds.{accounts}
 use Rattle.books.specs.declared.Figures.{Figures}
 use Rattle.printer.specs.Output.{decimal, upWord, downWord, newline}
+use Rattle.amounts.specs.Amounts.{signed, isZero, sameNumber}
 
 -- ---- words, as the bytes of the text that the comment shows, with its spaces; a line ends with the byte 10
 
@@ -53,19 +53,11 @@ figureAt l p k i = getD l (64 * p + 4 * k + i) (pos 0)
 unfoldable pub accountAt : List ℤ → ℕ → ℕ → Figures
 accountAt l p k = record { position = figureAt l p k 0; rate = figureAt l p k 1; called = figureAt l p k 2; settled = figureAt l p k 3 }
 
-abbrev pub isZero : ℤ → Bool
-isZero x = eqb (natAbs x) 0
-
 -- all four are zeros
 unfoldable pub isBlank : Figures → Bool
 isBlank a = isZero (a .position) && (isZero (a .rate) && (isZero (a .called) && isZero (a .settled)))
 
 -- ---- lines
-
--- a signed number in base ten: a minus sign before the size of a negative one
-unfoldable pub signed : ℤ → List ℕ
-signed (pos n) = decimal n
-signed (negsuc n) = (45 ∷ []) ++ decimal (suc n)
 
 -- account, position, rate, called, settled
 unfoldable pub accountLine : ℕ → Figures → List ℕ
@@ -105,12 +97,6 @@ siteParts l down zero = []
 siteParts l down (suc p) = siteParts l down p ++ sitePart l p (hasBit down p)
 
 -- ---- whether the sites that are up show the same figures
-
-unfoldable pub sameNumber : ℤ → ℤ → Bool
-sameNumber (pos m) (pos n) = eqb m n
-sameNumber (pos m) (negsuc n) = false
-sameNumber (negsuc m) (pos n) = false
-sameNumber (negsuc m) (negsuc n) = eqb m n
 
 unfoldable pub sameAccount : Figures → Figures → Bool
 sameAccount a b =

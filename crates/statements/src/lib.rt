@@ -1,5 +1,5 @@
 // The program `statement`: a run file is run, the board drained to quiet, and the books of every site printed; and the same without printing.
-// Rests on figures_table for the lines, on decoder and runfile for the file and its run, on printer for what is printed, on drain and machine.
+// Rests on its modules lines and same for the lines, on decoder and runfile for the file and its run, on printer for what is printed, on drain and machine.
 ghost use Prim.Native.Nat.{_≤_};
 ghost use mathlib.Core.Path.{_≡_};
 ghost use mathlib.Core.Bool.{false};

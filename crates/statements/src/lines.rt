@@ -1,16 +1,17 @@
 // The lines of a statement, written into a lent slice: a place past it is counted and nothing is put there.
-// Rests on same, on printer.
+// Rests on same, on amounts for signed numbers, on printer.
 ghost use mathlib.Core.Path.{_≡_};
 ghost use mathlib.Core.List.{_++_};
 ghost use Rattle.printer.specs.Writing.{slicePrinted, writtenOf, answerPrinted};
 ghost use Rattle.printer.specs.Puts.{Put};
-ghost use Rattle.statements.specs.Table.{signed, accountLine, accountPart, accountLines, siteHeading, accountsPart, sitePart, siteParts, closingLine, statementText};
+ghost use Rattle.amounts.specs.Amounts.{signed};
+ghost use Rattle.statements.specs.Table.{accountLine, accountPart, accountLines, siteHeading, accountsPart, sitePart, siteParts, closingLine, statementText};
 use crate::same::account_at;
 use crate::same::all_agree;
 use crate::same::has_none;
 use crate::same::is_blank;
+use amounts::put_signed;
 use books::Figures;
-use books::size;
 use masks::has_site;
 use posting::ACCOUNTS;
 use printer::Printed;
@@ -20,18 +21,6 @@ use printer::print::put_number;
 use printer::print::put_state;
 use printer::print::put_text;
 use sets::wide;
-
-// A signed number in base ten.
-fn put_signed(x: i64, at: usize, out: &mut [u8]) -> usize
-    ensures { λ r. ⌜ Put (signed x) at (now (out .entry)) (now (out .exit)) r ⌝ }
-{
-    let n = size(x) as usize;
-    if x < 0 {
-        let p = put(b'-', at, out);
-        return put_number(n, p, out);
-    }
-    put_number(n, at, out)
-}
 
 // A word and a signed number.
 fn put_figure(word: &[u8], x: i64, at: usize, out: &mut [u8]) -> usize

@@ -1,8 +1,9 @@
 // The figures of an account in a lent slice, and whether the sites that are up show the same.
-// Rests on books, masks, posting and sets.
+// Rests on amounts for numbers that are the same, on books, masks, posting and sets.
 ghost use Prim.Native.Nat.{_<_};
 ghost use mathlib.Core.Path.{_≡_};
-ghost use Rattle.statements.specs.Table.{figureAt, accountAt, isBlank, sameNumber, sameAccount, hasNone, sameSite, agree, agreeWith, allAgree};
+ghost use Rattle.statements.specs.Table.{figureAt, accountAt, isBlank, sameAccount, hasNone, sameSite, agree, agreeWith, allAgree};
+use amounts::same_number;
 use books::Figures;
 use books::size;
 use masks::has_site;
@@ -62,18 +63,6 @@ pub fn has_none(figures: &[i64], p: u8) -> bool
         if is_blank(a) == false {
             return false;
         }
-    }
-    true
-}
-
-fn same_number(x: i64, y: i64) -> bool
-    ensures { λ r. ⌜ r ≡ sameNumber x y ⌝ }
-{
-    if x < y {
-        return false;
-    }
-    if y < x {
-        return false;
     }
     true
 }

@@ -3,7 +3,7 @@
 // Rests on: names, promises, tree.
 
 use crate::names::{uses, Source};
-use crate::promises::{sources, AUDIT, FOR_TESTS, PROMISED};
+use crate::promises::{sources, AUDIT, AUDITED, FOR_TESTS, PROMISED};
 use crate::tree::{files, read, root};
 use std::collections::BTreeMap;
 
@@ -165,9 +165,27 @@ pub fn audit() -> Believed {
     found
 }
 
+/// The promises of the program `audit`, taken to what is there.
+fn take_program(found: &mut Believed) {
+    for (path, wanted) in AUDITED {
+        let text = read(&root().join(path));
+        for source in sources(&text, wanted, &[]) {
+            found.take(path, &source);
+        }
+    }
+}
+
+/// Of the audit alone, with its program: files and the report.
+pub fn audit_of_files() -> Believed {
+    let mut found = audit();
+    take_program(&mut found);
+    found
+}
+
 /// All: the service, what is exported for tests, and the audit.
 pub fn all() -> Believed {
     let mut found = promised(&[]);
+    take_program(&mut found);
     found.take_file(PASSES.to_string());
     found
 }

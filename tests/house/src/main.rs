@@ -1,7 +1,7 @@
 // Holds: prints what must be believed, a row a file, and how many lines it has.
 // Rests on: believed.
 
-use house::believed::{all, audit, service, statement, Believed};
+use house::believed::{all, audit, audit_of_files, service, statement, Believed};
 
 fn say(what: &str, found: &Believed) {
     let total = found.total();
@@ -22,6 +22,7 @@ fn main() {
         &service(),
     );
     say("the audit alone", &audit());
+    say("the audit with its program", &audit_of_files());
     say("all, with what is exported for tests", &found);
     for fault in &found.faults {
         println!("fault: {fault}");

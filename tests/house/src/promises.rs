@@ -26,6 +26,16 @@ pub const FOR_TESTS: [&str; 1] = ["board_call_changed"];
 /// The audit of records that come from elsewhere. It takes part in no step of the service, and the service in none of it.
 pub const AUDIT: [&str; 2] = ["board_audit_records", "board_audit_figures"];
 
+/// The functions that the program `audit` is made of: files read, a refusal said, the report written.
+pub const AUDITED: [(&str, &[&str]); 3] = [
+    (
+        "crates/audit_files/src/files.rt",
+        &["read_postings", "read_record"],
+    ),
+    ("crates/audit_witness/src/refusals.rt", &["put_refused"]),
+    ("crates/audit_report/src/lib.rt", &["report"]),
+];
+
 /// The name of the function that a line begins, if it is public.
 fn begins(line: &str) -> Option<&str> {
     let line = line.trim_start();

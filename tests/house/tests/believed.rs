@@ -1,7 +1,7 @@
 // Holds: what must be believed is what the docs list, stays within its limit, and uses no file of laws.
 // Rests on: house, docs/BELIEVED.md and README.md.
 
-use house::believed::{all, audit, service, statement};
+use house::believed::{all, audit, audit_of_files, service, statement};
 use house::tree::{read, root};
 
 /// The most lines of definitions.
@@ -27,6 +27,7 @@ fn the_docs_list_it() {
 #[test]
 fn it_stays_within_the_limit() {
     assert!(service().total().defining <= LIMIT);
+    assert!(audit_of_files().total().defining <= LIMIT);
 }
 
 #[test]
@@ -39,7 +40,7 @@ fn the_readme_has_the_count() {
             _ => text,
         }
     };
-    for found in [statement(), service(), audit(), all()] {
+    for found in [statement(), service(), audit(), audit_of_files(), all()] {
         let lines = found.total().defining;
         let said = format!("{} lines", count(lines));
         assert!(page.contains(&said), "README.md does not say {said}");

@@ -44,8 +44,8 @@ fn all_are_listed() {
     let folders = entries.filter(|entry| entry.path().is_dir());
     let mut names: Vec<_> = folders.map(|entry| entry.file_name()).collect();
     names.sort();
-    // c has a program and no run file
-    assert_eq!(names, [&["c"], &NAMES[..]].concat());
+    // audit has files of records, c a program, and neither a run file
+    assert_eq!(names, [&["audit", "c"], &NAMES[..]].concat());
 }
 
 #[test]

@@ -9,7 +9,7 @@ const ACCOUNTS: u8 = 16;
 const NO_KIND: u8 = 255;
 
 /// The pairs 0-2, 0-3, 1-1, 1-2 and 2-3, both ways round; row i, column j at bit 4i + j.
-const FIXED_PAIRS: u16 = 0x5B6C;
+pub(crate) const FIXED_PAIRS: u16 = 0x5B6C;
 
 const MAX_AMOUNT: u32 = 1_000_000_000;
 const MAX_RATE: u32 = 10_000;
@@ -34,7 +34,11 @@ fn is_symmetric(matrix: u16) -> bool {
     (0..4).all(|i| (0..i).all(|j| says(i, j) == says(j, i)))
 }
 
-fn in_row(kind: u8, a: u8, b: u8, amount: u32) -> bool {
+pub(crate) fn matrix_ok(matrix: u16) -> bool {
+    is_symmetric(matrix) && matrix & FIXED_PAIRS == FIXED_PAIRS
+}
+
+pub(crate) fn in_row(kind: u8, a: u8, b: u8, amount: u32) -> bool {
     let known = a.max(b) < ACCOUNTS || nets_all(kind, a, b);
     known
         && match kind {
@@ -64,7 +68,7 @@ impl Handed<'_> {
         let room = lent.marks.len() >= count && lent.places.len() >= count;
         if !(1..=SITES).contains(&self.ends.len()) {
             BAD_SITES
-        } else if !is_symmetric(self.matrix) || self.matrix & FIXED_PAIRS != FIXED_PAIRS {
+        } else if !matrix_ok(self.matrix) {
             BAD_MATRIX
         } else if !fields_fit || !ends_fit || !room || lent.ahead.len() < 8 * count {
             BAD_SIZES

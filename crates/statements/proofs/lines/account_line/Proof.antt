@@ -3,8 +3,9 @@
 use mathlib.Core.Path.{ap, _∙_}
 use mathlib.Core.List.{_++_}
 use lib.IntN.{ℤ}
-use Rattle.statements.proofs.Figures.{read-is}
-use Rattle.statements.specs.Table.{positionWord, rateWord, calledWord, settledWord, signed, accountLine}
+use Rattle.amounts.specs.Amounts.{signed}
+use Rattle.amounts.proofs.Figures.{read-is}
+use Rattle.statements.specs.Table.{positionWord, rateWord, calledWord, settledWord, accountLine}
 use Rattle.printer.proofs.Writing.{then-put, put-as, put-length}
 use borrow.Author.Needs.{needs}
 use Rattle.statements.proofs.lines.account_line.Statement.{statement}

@@ -2,7 +2,7 @@
 -- Assumes nothing.
 use mathlib.Core.Path.{ap}
 use mir.Facts.{toZ-ofZ}
-use Rattle.statements.specs.Table.{signed}
+use Rattle.amounts.specs.Amounts.{signed}
 use Rattle.printer.proofs.Writing.{then-put, put-as}
 use borrow.Author.Needs.{needs}
 use Rattle.statements.proofs.lines.put_figure.Statement.{statement}

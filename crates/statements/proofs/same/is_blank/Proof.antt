@@ -5,8 +5,9 @@ use mathlib.Core.Path.{_≡_, ap, _∙_}
 use mathlib.Core.Bool.{true, false}
 use lib.Dec.{eqb}
 use lib.IntN.{natAbs}
-use Rattle.statements.specs.Table.{isZero, isBlank}
-use Rattle.statements.proofs.Figures.{read-is, zero-is, not-zero}
+use Rattle.amounts.specs.Amounts.{isZero}
+use Rattle.amounts.proofs.Figures.{read-is, zero-is, not-zero}
+use Rattle.statements.specs.Table.{isBlank}
 use borrow.Author.Needs.{needs}
 use Rattle.statements.proofs.same.is_blank.Statement.{statement}
 use Rattle.statements.proofs.same.is_blank.Tie as tie

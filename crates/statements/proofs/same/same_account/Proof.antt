@@ -2,8 +2,9 @@
 -- Assumes nothing.
 use mathlib.Core.Path.{_≡_, ap₂, _∙_}
 use mathlib.Core.Bool.{true, false}
-use Rattle.statements.proofs.Figures.{read-is}
-use Rattle.statements.specs.Table.{sameNumber, sameAccount}
+use Rattle.amounts.specs.Amounts.{sameNumber}
+use Rattle.amounts.proofs.Figures.{read-is}
+use Rattle.statements.specs.Table.{sameAccount}
 use Rattle.sets.proofs.Truth.{passed, failed}
 use borrow.Author.Needs.{needs}
 use Rattle.statements.proofs.same.same_account.Statement.{statement}

@@ -1,0 +1,3 @@
+-- Lengths: how long what is read can be.
+-- Rests on audit_files.
+pub mod Lengths
