@@ -1,5 +1,5 @@
 -- What an answer of the audit says of its place and its pair, and what is known of records that were not refused: all that their report needs.
--- Rests on Report and Needs, audit_records, audit_books, audit_lacks, audit_witness, audit_input, audit_pair and audit_rule. Assumes nothing.
+-- Rests on Needs, audit_records, audit_books, audit_witness, audit_input, audit_pair and audit_rule. Assumes nothing.
 use Prim.Native.Nat.{ℕ, _-_, _<_, _≤_}
 use mathlib.Core.Path.{_≡_, refl}
 use mathlib.Core.Logic.{inl, inr, _≢_}
