@@ -324,6 +324,57 @@ fn say_refused(refused: Refused) {
     }
 }
 
+// Said where a report is longer than its buffer.
+fn say_too_long() {
+    io::write_all(
+        STDERR_FILENO,
+        b"The report is too long to be written; there is no verdict.\n",
+    );
+}
+
+// The report of what was read.
+fn report_read(
+    matrix: u16,
+    kinds: &[u8],
+    firsts: &[u8],
+    seconds: &[u8],
+    amounts: &[u32],
+    lines: &[u16],
+    ends: &[usize],
+    tops: &[u8],
+    places: &mut [u32],
+)
+    requires { ⌜ (length (now lines) ≤ 458_759) × (length (now ends) ≤ length (now tops)) ⌝ }
+{
+    let mut marks = [0; POSTINGS];
+    let mut ahead = [0; AHEAD];
+    let mut figures = [0; FIGURES];
+    let mut out = io::large_buffer();
+    let answer = report(
+        matrix,
+        kinds,
+        firsts,
+        seconds,
+        amounts,
+        lines,
+        ends,
+        tops,
+        &mut marks,
+        places,
+        &mut ahead,
+        &mut figures,
+        &mut out,
+    );
+    match answer {
+        Printed::Written(count) => {
+            write_out(&out[..count]);
+        }
+        Printed::Short => {
+            say_too_long();
+        }
+    }
+}
+
 // The report of files: read one after another into one buffer, judged, audited.
 fn report_on(matrix: u16, number: usize, n: usize)
     requires { ⌜ (n ≤ 7) × (number < 1_000_000) ⌝ }
@@ -354,11 +405,7 @@ fn report_on(matrix: u16, number: usize, n: usize)
         say_refused(read.refused);
         return;
     }
-    let mut marks = [0; POSTINGS];
-    let mut ahead = [0; AHEAD];
-    let mut figures = [0; FIGURES];
-    let mut out = io::large_buffer();
-    let answer = report(
+    report_read(
         matrix,
         &kinds,
         &firsts,
@@ -367,18 +414,8 @@ fn report_on(matrix: u16, number: usize, n: usize)
         &lines[..read.count],
         &ends[..n],
         &tops,
-        &mut marks,
         &mut places,
-        &mut ahead,
-        &mut figures,
-        &mut out,
     );
-    match answer {
-        Printed::Written(count) => {
-            write_out(&out[..count]);
-        }
-        Printed::Short => {}
-    }
 }
 
 // A site and its file, in a line.
