@@ -1,5 +1,5 @@
 -- A file of postings that is not refused: every line's posting stands at its number afterwards, so that what is audited is what the file says.
--- Rests on Files, posting and audit_input. Assumes nothing.
+-- Rests on Files, Room, posting and audit_input. Assumes nothing.
 use Prim.Native.Nat.{ℕ, zero, suc, _<_, _≤_}
 use mathlib.Core.Path.{_≡_, refl, sym, ap, _∙_, subst}
 use mathlib.Core.Logic.{inl, inr, _≢_}
@@ -18,6 +18,7 @@ use Rattle.audit_input.specs.Input.{unused}
 use Rattle.audit_files.specs.declared.Entry.{Entry}
 use Rattle.audit_files.specs.declared.Refused.{Refused}
 use Rattle.audit_files.specs.Entries.{malformed}
+use Rattle.audit_files.specs.Room.{Room}
 use Rattle.audit_files.specs.Files.{Store, refusing, lower, whereIs, postingOf, keeps, kept, postingCode, keptAll, postingsRefused}
 
 -- ---- refusals
@@ -51,12 +52,8 @@ code-none kinds e z = elim (test (eqb (e .form) 2)) [
 abbrev at : Store → ℕ → Posting
 at s x = postingAt (s .kinds) (s .firsts) (s .seconds) (s .amounts) x
 
--- a place for every number
-pub record Roomy (s : Store) : Type 0 where
-  pub kinds-all : length (s .kinds) ≡ 65_536
-  pub firsts-all : length (s .firsts) ≡ 65_536
-  pub seconds-all : length (s .seconds) ≡ 65_536
-  pub amounts-all : length (s .amounts) ≡ 65_536
+abbrev pub Roomy : Store → Type 0
+Roomy s = Room (s .kinds) (s .firsts) (s .seconds) (s .amounts) (s .wheres)
 
 kept-roomy : (file line : ℕ) (e : Entry) (s : Store) → Roomy s → Roomy (kept file line e s)
 unfolding kept
@@ -67,6 +64,7 @@ kept-roomy file line e s r = elim (test (keeps e (s .kinds))) [
     firsts-all = length-set (s .firsts) (e .number) (e .a) ∙ r .firsts-all;
     seconds-all = length-set (s .seconds) (e .number) (e .b) ∙ r .seconds-all;
     amounts-all = length-set (s .amounts) (e .number) (e .amount) ∙ r .amounts-all;
+    wheres-all = length-set (s .wheres) (e .number) (whereIs file line) ∙ r .wheres-all;
   }
 ]
 

@@ -3,7 +3,7 @@
 use Prim.Native.Nat.{ℕ, suc, _+_, _-_, _<_, _≤_}
 use mathlib.Core.Path.{_≡_, refl, sym, ap, _∙_}
 use mathlib.Core.Logic.{inl, inr}
-use mathlib.Core.Bool.{Bool, true, false, cond, Bool·beq}
+use mathlib.Core.Bool.{Bool, true, false, cond}
 use mathlib.Core.List.{List, [], _∷_, append-assoc}
 use native.Mathlib.Omega.{arith}
 use native.Mathlib.Numerals.{add-one}
@@ -19,16 +19,6 @@ use Rattle.audit_files.specs.Files.{Store, refusing, nothing, lower, kep
 use Rattle.audit_files.specs.Room.{Room}
 use Rattle.audit_files.specs.Steps.{SaidAt, entriesFrom, store}
 use Rattle.audit_files.proofs.FileLaws.{from-next, from-end}
-
--- ---- a test that is compared with false
-
-pub beq-true : (b : Bool) → Bool·beq b false ≡ true → b ≡ false
-beq-true true e = sym e
-beq-true false e = refl
-
-pub beq-false : (b : Bool) → Bool·beq b false ≡ false → b ≡ true
-beq-false true e = refl
-beq-false false e = sym e
 
 -- ---- the number of a line
 

@@ -1,24 +1,13 @@
--- Lengths: a file's first line, a record's lines, and slices that keep theirs.
+-- Lengths: of a record's lines, of slices that keep theirs, and of arrays.
 -- Rests on audit_files. Assumes nothing.
 use Prim.Native.Nat.{ℕ, suc, _≤_}
 use mathlib.Core.Path.{_≡_, refl, sym, ap, _∙_}
-use mathlib.Core.Bool.{Bool, true, false, cond}
 use mathlib.Core.List.{List, [], _∷_}
 use native.Mathlib.Omega.{arith}
 use lib.ListN.{length, take, length-take, replicate, length-replicate}
 use Rattle.audit_files.specs.declared.Entry.{Entry}
-use Rattle.audit_files.specs.Entries.{headed, topLine}
 use Rattle.audit_files.specs.Files.{numbersOf, mostLines, recordLines}
 use Rattle.audit_files.specs.Room.{Room}
-
-two-at-most : (b : Bool) → cond b 2 1 ≤ 2
-two-at-most true = omega arith
-two-at-most false = omega arith
-
--- The first line that is no heading is the first or the second.
-pub top-few : (file : List ℕ) → topLine file ≤ 2
-unfolding topLine
-top-few file = two-at-most (headed file)
 
 numbers-long : (l : List Entry) → length (numbersOf l) ≡ length l
 unfolding numbersOf

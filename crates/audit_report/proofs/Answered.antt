@@ -27,7 +27,7 @@ use Rattle.audit_records.specs.Audited.{conflicts, answering, audited}
 use Rattle.audit_records.proofs.Lawful.{below-few, known-below, turned, audited-lawful}
 use Rattle.audit_records.proofs.Answers.{departs-says, code-cases}
 use Rattle.audit_books.specs.Lines.{Postable}
-use Rattle.audit_witness.specs.Needs.{mostLines, Told}
+use Rattle.audit_witness.specs.Needs.{mostOfAll, Told}
 use Rattle.audit_witness.proofs.Lines.{place-few}
 use Rattle.audit_report.specs.Needs.{Accepted, Ready, Noted, Prepared}
 use Rattle.audit_report.proofs.Lacks.{lacks-known}
@@ -35,7 +35,7 @@ use Rattle.audit_report.proofs.Lacks.{lacks-known}
 -- ---- the place of an answer
 
 abbrev Small : Answer → Type 0
-Small r = (r .site ≤ 7) × (r .line ≤ mostLines) × (r .above ≤ mostLines)
+Small r = (r .site ≤ 7) × (r .line ≤ mostOfAll) × (r .above ≤ mostOfAll)
 
 record-few : (lines ends : List ℕ) (p : ℕ) → length (recordOf lines ends p) ≤ length lines
 record-few lines ends p =
@@ -50,7 +50,7 @@ module _ (kinds lines ends : List ℕ) where
   abbrev twice : Spot
   twice = firstSpot repeatedLine (length ends) (recordOf lines ends)
 
-  lines-small : length ends ≤ 7 → length lines ≤ mostLines → Small (linesJudged kinds lines ends)
+  lines-small : length ends ≤ 7 → length lines ≤ mostOfAll → Small (linesJudged kinds lines ends)
   unfolding linesJudged
   lines-small sites few = elim (decLt (unknown .site) (length ends)) [
     | yes h ↦
@@ -101,7 +101,7 @@ module _ (matrix : ℕ) (kinds firsts seconds amounts lines ends : List ℕ) (ma
   abbrev Lawfully : Type 0
   Lawfully = Lawful matrix kinds firsts seconds amounts lines ends marks places ahead
 
-  judged-small : length lines ≤ mostLines → Small refused
+  judged-small : length lines ≤ mostOfAll → Small refused
   unfolding judged
   judged-small few =
       let code = sizesCode matrix kinds firsts seconds amounts lines ends marks places ahead in
@@ -127,7 +127,7 @@ module _ (matrix : ℕ) (kinds firsts seconds amounts lines ends : List ℕ) (ma
   abbrev Placed : Answer → Type 0
   Placed r = Small r × (10 ≤ r .code → Told kinds ends r)
 
-  outcome-placed : Lawfully → length lines ≤ mostLines → (o : Outcome) → audit conflict (length kinds) n records ≡ o
+  outcome-placed : Lawfully → length lines ≤ mostOfAll → (o : Outcome) → audit conflict (length kinds) n records ≡ o
       → Placed (answering matrix kinds firsts seconds amounts lines ends o)
   unfolding answering
   outcome-placed ok few agreed e = ((omega arith, omega arith, omega arith), λ h. absurd (omega (arith, h)))
@@ -149,7 +149,7 @@ module _ (matrix : ℕ) (kinds firsts seconds amounts lines ends : List ℕ) (ma
         },
       )
 
-  answer-placed : length lines ≤ mostLines → Placed answer
+  answer-placed : length lines ≤ mostOfAll → Placed answer
   answer-placed few = elim (code-cases matrix kinds firsts seconds amounts lines ends marks places ahead) [
     | inr (e, low, high) ↦ (rw e (judged-small few), λ h. absurd (omega (arith, h, high)))
     | inl z ↦
@@ -191,7 +191,7 @@ module _ (matrix : ℕ) (kinds firsts seconds amounts lines ends : List ℕ) (ma
           figures-room = omega (arith, ok .sites, f);
         }
 
-    pub answer-prepared : (tops counts lowests : List ℕ) (figures : List ℤ) → length lines ≤ mostLines → length ends ≤ length tops → 7 ≤ length counts → 7 ≤ length lowests
+    pub answer-prepared : (tops counts lowests : List ℕ) (figures : List ℤ) → length lines ≤ mostOfAll → length ends ≤ length tops → 7 ≤ length counts → 7 ≤ length lowests
         → (Accepted (r .code) → Noted kinds firsts seconds amounts lines ends counts lowests figures)
         → Prepared kinds firsts seconds amounts lines ends tops counts lowests figures r
     answer-prepared tops counts lowests figures few all c l noted =

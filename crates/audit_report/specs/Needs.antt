@@ -15,7 +15,7 @@ use Rattle.audit_input.specs.declared.Answer.{Answer}
 use Rattle.audit_books.specs.All.{numbersOfAll, AllPostable}
 use Rattle.audit_lacks.specs.Needs.{Markable, Lacking}
 use Rattle.audit_witness.specs.Witness.{witnessWords}
-use Rattle.audit_witness.specs.Needs.{mostLines, Filed, Told}
+use Rattle.audit_witness.specs.Needs.{mostOfAll, Filed, Told}
 use Rattle.audit_table.specs.Table.{tableText}
 use Rattle.audit_report.specs.Report.{readWords, lackLine}
 
@@ -66,7 +66,7 @@ pub record Noted (kinds firsts seconds amounts lines ends counts lowests : List 
 
 -- what the report of an answer needs: of a refusal its place, of records that agree what each site lacks, of records that do not the pair
 pub record Prepared (kinds firsts seconds amounts lines ends tops counts lowests : List ℕ) (figures : List ℤ) (r : Answer) : Type 0 where
-  pub small : (r .site ≤ 7) × (r .line ≤ mostLines) × (r .above ≤ mostLines)
+  pub small : (r .site ≤ 7) × (r .line ≤ mostOfAll) × (r .above ≤ mostOfAll)
   pub agreed : r .code ≡ 0 → LacksKnown kinds counts lowests (length ends) × (length ends ≤ 7)
   pub departs : 10 ≤ r .code → Filed lines ends tops × Told kinds ends r × Fields kinds firsts seconds amounts
   pub noted : Accepted (r .code) → Noted kinds firsts seconds amounts lines ends counts lowests figures

@@ -9,15 +9,15 @@ use Rattle.audit_rule.specs.Needs.{Rising}
 use Rattle.audit_pair.specs.Pair.{Fields}
 use Rattle.audit_input.specs.declared.Answer.{Answer}
 
--- a number for every line: 7 times 65,537
-abbrev pub mostLines : ℕ
-mostLines = 458_759
+-- the most lines of all sites: 7 times 65,537
+abbrev pub mostOfAll : ℕ
+mostOfAll = 458_759
 
 pub record Filed (lines ends tops : List ℕ) : Type 0 where
   pub ends-rise : Rising lines ends
   pub few : length ends ≤ 7
   pub tops-all : length ends ≤ length tops
-  pub few-lines : length lines ≤ mostLines
+  pub few-lines : length lines ≤ mostOfAll
 
 pub record Told (kinds ends : List ℕ) (r : Answer) : Type 0 where
   pub few : length kinds ≤ 65_536
@@ -26,4 +26,4 @@ pub record Told (kinds ends : List ℕ) (r : Answer) : Type 0 where
   pub here-below : r .here < length ends
   pub there-below : r .there < length ends
   pub site-below : r .site < length ends
-  pub line-few : r .line ≤ mostLines
+  pub line-few : r .line ≤ mostOfAll

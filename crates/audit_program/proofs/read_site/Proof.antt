@@ -6,7 +6,8 @@ use lib.ListN.{take}
 use lib.Seq.{length-take-le}
 use borrow.Author.Needs.{needs}
 use Rattle.audit_files.specs.Entries.{entries}
-use Rattle.audit_program.proofs.Lengths.{top-few, record-few, room-stays}
+use Rattle.audit_files.proofs.LineLaws.{top-most}
+use Rattle.audit_program.proofs.Lengths.{record-few, room-stays}
 use Rattle.audit_program.proofs.read_site.Statement.{statement}
 use Rattle.audit_program.proofs.read_site.Tie as tie
 
@@ -35,7 +36,7 @@ top-line-requires : tie.Need-top-line-requires
 top-line-requires c κs = search needs
 
 cast-tops : tie.Need-cast-tops
-cast-tops c = let few = top-few (take (c .before .before .before .before .before .before .load .result .length) (c .before .before .before .before .before .before .load .last .1 .0)) in omega (arith, few, c .top-line .ensures)
+cast-tops c = let few = top-most (take (c .before .before .before .before .before .before .load .result .length) (c .before .before .before .before .before .before .load .last .1 .0)) in omega (arith, few, c .top-line .ensures)
 
 slice-write-tops : tie.Need-slice-write-tops
 slice-write-tops c = search needs

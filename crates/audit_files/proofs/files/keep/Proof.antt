@@ -1,9 +1,8 @@
 -- `keep` meets its contract.
 -- Assumes nothing.
-use mathlib.Core.Path.{sym, _∙_}
 use borrow.Author.Tests.{eq-eqb, ne-eqb}
 use Rattle.audit_files.specs.Files.{kept, keeps, whereIs}
-use Rattle.audit_files.proofs.LineLaws.{beq-true, beq-false}
+use Rattle.sets.proofs.Truth.{failed, passed}
 use borrow.Author.Needs.{needs}
 use Rattle.audit_files.proofs.files.keep.Statement.{statement}
 use Rattle.audit_files.proofs.files.keep.Tie as tie
@@ -23,7 +22,7 @@ same-length c = search needs
 
 returns-2 : tie.Need-returns-2
 unfolding kept keeps
-returns-2 c = rw (eq-eqb (c .before .before .before .before .before .before .before .before .before .before .before .args .e .form) 2 (c .before .before .before .before .if1 .left), sym (c .before .unused .ensures) ∙ beq-true (c .before .unused .result) (c .if2 .taken))
+returns-2 c = rw (eq-eqb (c .before .before .before .before .before .before .before .before .before .before .before .args .e .form) 2 (c .before .before .before .before .if1 .left), failed (c .before .unused .ensures) (c .if2 .taken))
 
 slice-write-kinds : tie.Need-slice-write-kinds
 slice-write-kinds c = search needs
@@ -72,7 +71,7 @@ same-length-6 c = search needs
 
 returns-3 : tie.Need-returns-3
 unfolding kept keeps whereIs
-returns-3 c = rw (eq-eqb (c .before .before .before .before .before .before .before .before .before .before .before .args .e .form) 2 (c .before .before .before .before .if1 .left), sym (c .before .unused .ensures) ∙ beq-false (c .before .unused .result) (c .if2 .left))
+returns-3 c = rw (eq-eqb (c .before .before .before .before .before .before .before .before .before .before .before .args .e .form) 2 (c .before .before .before .before .if1 .left), passed (c .before .unused .ensures) (c .if2 .left))
 
 pub keep-spec : {M : Type 1} → statement M
 keep-spec =
