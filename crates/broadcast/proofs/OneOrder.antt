@@ -90,6 +90,7 @@ module _ (w : World) where
   carried_ahead : (entry : ℕ → ℕ → Bool) (x y : ℕ) (log : List ℕ) → x < w.bound → ((m : ℕ) → In m log → entry m y ≡ true → ⊥) → (In y log → entry y x ≡ true)
       → In y (expand w entry log) → Ahead x y (expand w entry log)
   unfolding entry_of
+  carried_ahead entry x y [] lt never own here = elim here [ ]
   carried_ahead entry x y (m ∷ l) lt never own here =
       let set = members (entry m) w.bound in
       let no_set_lem : ¬ In y set = λ k. never m (inl refl) (members_in (entry m) y w.bound k).1 in

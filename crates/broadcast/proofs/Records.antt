@@ -110,10 +110,12 @@ module _ (w : World) where
   ]
 
   pub in_expand : (entry : ℕ → ℕ → Bool) (m x : ℕ) (log : List ℕ) → In m log → In x (entry_of w entry m) → In x (expand w entry log)
+  in_expand entry m x [] x3 h = elim x3 [ ]
   in_expand entry m x (y ∷ l) (inl e) h = in_left x (entry_of w entry y) (expand w entry l) (rw (← e) h)
   in_expand entry m x (y ∷ l) (inr k) h = in_right x (entry_of w entry y) (expand w entry l) (in_expand entry m x l k h)
 
   pub expand_in : (entry : ℕ → ℕ → Bool) (log : List ℕ) (x : ℕ) → In x (expand w entry log) → In x log ⊎ ((m : ℕ) × In m log × (entry m x ≡ true))
+  expand_in entry [] x h = elim h [ ]
   expand_in entry (m ∷ l) x h = elim (in_cases x (entry_of w entry m) (expand w entry l) h) [
     | inl k ↦ elim (entry_in entry m x k) [ inl e ↦ inl (inl e) | inr q ↦ inr (m, inl refl, q) ]
     | inr k ↦ elim (expand_in entry l x k) [ inl q ↦ inl (inr q) | inr q ↦ inr (q.0, inr q.1, q.2) ]
