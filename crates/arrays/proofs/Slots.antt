@@ -3,7 +3,7 @@
 -- remove_long; long_stored, slot_other, slot_same; has_slot, adding_is, dropping_is; long_added, slot_added, slot_added_other, has_added,
 -- shape_added. Rests on Arrays and on flight's words_from. Assumes nothing.
 use Prim.Native.Nat.{ℕ, zero, suc, ◌+◌, ◌*◌, ◌-◌, ◌/◌, ◌%◌, ◌^◌, ◌<◌, ◌≤◌}
-use mathlib.Core.Path.{◌≡◌, refl, sym, ap, ap₂, ◌∙◌}
+use mathlib.Core.Path.{◌≡◌, refl, sym, ap, ap₂, ◌∙◌, subst}
 use mathlib.Core.Logic.{◌⊎◌, inl, inr, ◌≢◌}
 use mathlib.Core.Bool.{◌&&◌, ◌||◌, or-false}
 use mathlib.Core.List.{List, [], ◌∷◌}
@@ -42,10 +42,11 @@ unfolding words_from
 part_set l i zero j v b h = absurd (omega arith)
 part_set l i (suc n) zero v b h =
     let e : i + 0 ≡ i = omega arith in
-    rw e (ap₂ (λ (w : ℕ) (ws : List ℕ). w ∷ ws) (get_or-set_same l i v 0 (omega arith)) (part_other l (suc i) n i v (inl (omega arith))))
+    subst (λ (k : ℕ). words_from (set l k v) i (suc n) ≡ set (words_from l i (suc n)) 0 v) (sym e)
+    (ap₂ (λ (w : ℕ) (ws : List ℕ). w ∷ ws) (get_or-set_same l i v 0 (omega arith)) (part_other l (suc i) n i v (inl (omega arith))))
 part_set l i (suc n) (suc j) v b h =
     let e : i + suc j ≡ suc i + j = omega arith in
-    rw e
+    subst (λ (k : ℕ). words_from (set l k v) i (suc n) ≡ set (words_from l i (suc n)) (suc j) v) (sym e)
     (ap₂ (λ (w : ℕ) (ws : List ℕ). w ∷ ws) (get_or-set_other l (suc i + j) i v 0 (omega arith))
     (part_set l (suc i) n j v (omega arith) (omega arith)))
 

@@ -1,14 +1,17 @@
 // What `audit` prints for each set of arguments, of which `+` ends one: the repository's examples, stored as cases.
-// Rests on audit_program, on os for the arguments.
+// Rests on audit_program.
+#![tactic(auto)]
 ghost use Rattle.std.specs.Prelude.{◌≤◌, ◌<◌};
+
+use std::rt::{Env, Files};
 
 // The most arguments that are looked at.
 const MOST: usize = 1_000;
 
 // Whether an argument ends a set.
-fn is_end(number: usize) -> bool {
-    let mut word = io::buffer();
-    let n = os::arg(number, &mut word);
+fn is_end(rt: &impl Env, number: usize) -> bool {
+    let mut word = [0; 1];
+    let n = audit_program::argument(rt, number, &mut word);
     if n != 1 {
         return false;
     }
@@ -16,13 +19,13 @@ fn is_end(number: usize) -> bool {
 }
 
 // Where the set ends that begins with an argument: at the next `+`, or behind the last argument.
-fn end_of(first: usize, count: usize) -> usize
+fn end_of(rt: &impl Env, first: usize, count: usize) -> usize
     requires { (first ≤ count) × (count ≤ 1_000) }
     ensures { (first ≤ result) × (result ≤ count) }
 {
     let mut i = first;
     while i < count {
-        if is_end(i) {
+        if is_end(rt, i) {
             return i;
         }
         i += 1;
@@ -31,21 +34,21 @@ fn end_of(first: usize, count: usize) -> usize
 }
 
 // All sets.
-fn audit_sets(count: usize)
+fn audit_sets(rt: &(impl Files + Env + Print + Eprint), count: usize)
     requires { count ≤ 1_000 }
 {
     let mut first = 1;
     while first < count {
-        let end = end_of(first, count);
-        audit_program::audit(first, end);
+        let end = end_of(rt, first, count);
+        audit_program::audit(rt, first, end);
         first = end + 1;
     }
 }
 
-fn main() {
-    let count = os::arg_count();
+fn main(rt: HostRuntime) {
+    let count = audit_program::argument_count(&rt, MOST + 1);
     if MOST < count {
         return;
     }
-    audit_sets(count);
+    audit_sets(&rt, count);
 }

@@ -4,7 +4,7 @@ pub mod entries;
 pub mod files;
 
 // What a line says: form 0 malformed, 1 a posting's number, 2 all its fields.
-#[derive(Drop)]
+#[derive(Clone, Copy)]
 pub struct Entry {
     pub form: u8,
     pub number: u16,

@@ -32,7 +32,7 @@ const TWICE: u8 = 9;
 // What the audit answers. The code is 0 if the records agree, the number of a refusal up to 9, or 10 to 12 for a pair (audit_pair's constants).
 // A refusal names its site, line and posting, and for a posting named twice the line above. A pair comes with the line that departs, and
 // with the sites that show it.
-#[derive(Drop)]
+#[derive(Clone, Copy)]
 pub struct Answer {
     pub code: u8,
     pub site: usize,

@@ -1,6 +1,7 @@
 // Program `audit` over the process's arguments: files are read, and the report is written to standard output.
-// Rests on audit_files and audit_report for all of the work, on io, os and libc for reading and writing, of which no contract can say more.
-ghost use Rattle.std.specs.Prelude.{◌≡◌, ◌+◌, ◌<◌, ◌≤◌, length};
+// Rests on audit_files and audit_report for all of the work, on std for reading and writing, of which no contract can say more.
+#![tactic(auto)]
+ghost use Rattle.std.specs.Prelude.{◌≡◌, ◌+◌, ◌<◌, ◌≤◌, length, IfOk};
 ghost use Rattle.audit_files.specs.Room.{Room};
 
 use audit_files::Refused;
@@ -8,8 +9,11 @@ use audit_files::files::{Read, lower, read_postings, read_record, refusing, top_
 use audit_input::matrix_ok;
 use audit_report::report;
 use audit_witness::refusals::put_refused;
-use libc::{STDERR_FILENO, STDOUT_FILENO};
 use printer::Printed;
+use std::env::FillError;
+use std::io::{Cursor, Write};
+use std::rt::{Env, Files};
+use std::{fs, io, str};
 
 // What fills it is refused, however much follows; no file that is well formed does.
 const TEXT: usize = 2_097_152;
@@ -24,6 +28,14 @@ const LINES: usize = 458_759;
 const AHEAD: usize = 524_288;
 
 const FIGURES: usize = 448;
+
+const OUTPUT: usize = 65_536;
+
+// The longest name of a file.
+const PATH: usize = 4096;
+
+// No report of a refusal is longer.
+const REFUSAL: usize = 4096;
 
 // The fixed pairs.
 const FIXED_PAIRS: u16 = 0x5B6C;
@@ -42,63 +54,115 @@ const LONG: u8 = 2;
 // No argument gives such a matrix.
 const NO_MATRIX: usize = 65_536;
 
+// The longest message of the system's.
+const MESSAGE: usize = 512;
+
 // A text on standard output; if it cannot be written, that is said on standard error.
-fn write_out(text: &[u8]) {
-    if io::write_all(STDOUT_FILENO, text) {
+fn write_out(rt: &(impl Print + Eprint), text: &[u8]) {
+    if rt.write_all(text).is_ok() {
         return;
     }
-    io::write_all(
-        STDERR_FILENO,
-        b"The report could not be written to its end.\n",
-    );
+    let _ = rt.eprintln("The report could not be written to its end.");
 }
 
-// Whether reading stopped at a failure and not at the end of the file: then the next read fails too.
-fn read_failed(fd: i32) -> bool {
-    let mut next = [0; 1];
-    libc::read(fd, &mut next) < 0
+// An argument at the start of the slice: how many bytes it has, or 0 where there is none that fits.
+pub fn argument(rt: &impl Env, number: usize, word: &mut [u8]) -> usize
+    ensures { result ≤ length word.new }
+{
+    rt.arg(number, word).unwrap_or(0)
 }
 
-// An open file read into the slice.
-fn read_open(fd: i32, text: &mut [u8]) -> Loaded
+// How many arguments there are, the program's own name among them, or the most, if there are more.
+pub fn argument_count(rt: &impl Env, most: usize) -> usize
+    ensures { result ≤ most }
+{
+    let mut word = [0; 1];
+    for number in 0..most {
+        if let Err(FillError::NotPresent) = rt.arg(number, &mut word) {
+            return number;
+        }
+    }
+    most
+}
+
+// What the system's message says; the number that std puts behind it is left out.
+fn put_reason(rt: &impl Eprint, message: &str) {
+    match message.split_once(" (os error ") {
+        Some((reason, _)) => {
+            let _ = rt.eprintln(reason);
+        }
+        None => {
+            let _ = rt.eprintln(message.trim_end_matches('\0'));
+        }
+    }
+}
+
+// A file and why it was not read, on standard error.
+fn say_failed(rt: &impl Eprint, path: &str, error: &io::Error) {
+    let mut message = Cursor::new([0; MESSAGE]);
+    let _ = write!(message, "{error}");
+    let _ = eprint!(rt; "{path}: ");
+    put_reason(rt, str::from_utf8(message.get_ref()).unwrap_or(""));
+}
+
+// Reads until the slice is full or the file ends: how many bytes there are at its start.
+fn read_full<R: io::Read>(from: &mut R, text: &mut [u8]) -> io::Result<usize>
+    ensures { IfOk result (λ n. n ≤ length text.new) }
+{
+    let mut done = 0;
+    while done < text.len() {
+        let n = from.read(&mut text[done..])?;
+        if n == 0 {
+            break;
+        }
+        done += n;
+    }
+    Ok(done)
+}
+
+// A file opened and read into the slice.
+fn read_file(rt: &impl Files, path: &str, text: &mut [u8]) -> io::Result<usize>
+    ensures { IfOk result (λ n. n ≤ length text.new) }
+{
+    let mut file = fs::open(rt, path)?;
+    read_full(&mut file, text)
+}
+
+// The file of a name, read into the slice. What fails is said on standard error.
+fn load_named(rt: &(impl Files + Eprint), path: &str, text: &mut [u8]) -> Loaded
     ensures { result.length ≤ length text.new }
 {
-    let length = io::read_full(fd, text);
-    if length == text.len() {
-        return Loaded {
+    match read_file(rt, path, text) {
+        Ok(length) => Loaded {
             length,
-            state: LONG,
-        };
+            state: if length == text.len() { LONG } else { 0 },
+        },
+        Err(error) => {
+            say_failed(rt, path, &error);
+            Loaded {
+                length: 0,
+                state: UNREAD,
+            }
+        }
     }
-    if read_failed(fd) {
-        return Loaded {
-            length,
-            state: UNREAD,
-        };
-    }
-    Loaded { length, state: 0 }
 }
 
 // The file that an argument names, read into the slice. What fails is said on standard error.
-fn load(number: usize, text: &mut [u8]) -> Loaded
+fn load(rt: &(impl Files + Env + Eprint), number: usize, text: &mut [u8]) -> Loaded
     ensures { result.length ≤ length text.new }
 {
-    let mut path = io::buffer();
-    let n = os::arg(number, &mut path);
-    let fd = os::open_read(&path[..n]);
-    if fd < 0 {
-        os::fail(&path[..n]);
-        return Loaded {
-            length: 0,
-            state: UNREAD,
-        };
+    let mut path = [0; PATH];
+    let n = argument(rt, number, &mut path);
+    match str::from_utf8(&path[..n]) {
+        Ok(path) => load_named(rt, path, text),
+        Err(_) => {
+            let _ = eprintln!(rt; "Argument {number} is no text, and no file is read by it.");
+            Loaded {
+                length: 0,
+                state: UNREAD,
+            }
+        }
     }
-    let loaded = read_open(fd, text);
-    if loaded.state == UNREAD {
-        os::fail(&path[..n]);
-    }
-    libc::close(fd);
-    loaded
 }
 
 // A file that was not read.
@@ -130,6 +194,7 @@ fn read_own(
 
 // The file of site p, read.
 fn read_site(
+    rt: &(impl Files + Env + Eprint),
     own: bool,
     number: usize,
     p: usize,
@@ -146,7 +211,7 @@ fn read_site(
     requires { Room kinds.old firsts.old seconds.old amounts.old wheres.old × (p < 7) × (length tops.old ≡ 7) × (length text.old ≡ 2_097_152) × (from + 65_537 ≤ length lines.old) }
     ensures { result.count ≤ 65_537 }
 {
-    let loaded = load(number, text);
+    let loaded = load(rt, number, text);
     if loaded.state != 0 {
         let refused = not_read(p + 1, loaded.state);
         return Read { count: 0, refused };
@@ -183,6 +248,7 @@ fn read_site(
 
 // The files of all sites, read: how many lines there are, and the first refusal.
 fn read_sites(
+    rt: &(impl Files + Env + Eprint),
     own: bool,
     number: usize,
     n: usize,
@@ -203,6 +269,7 @@ fn read_sites(
     let mut from = 0;
     for p in 0..n {
         let read = read_site(
+            rt,
             own,
             number + p,
             p,
@@ -228,6 +295,7 @@ fn read_sites(
 
 // The file of postings, read, unless the records bring their own.
 fn read_first(
+    rt: &(impl Files + Env + Eprint),
     own: bool,
     number: usize,
     text: &mut [u8],
@@ -242,7 +310,7 @@ fn read_first(
     if own {
         return refusing(0, 0, 0, 0, 0);
     }
-    let loaded = load(number, text);
+    let loaded = load(rt, number, text);
     if loaded.state != 0 {
         return not_read(0, loaded.state);
     }
@@ -259,9 +327,9 @@ fn read_first(
 }
 
 // Whether an argument is `-`: then the records bring their own postings.
-fn is_own(number: usize) -> bool {
-    let mut path = io::buffer();
-    let n = os::arg(number, &mut path);
+fn is_own(rt: &impl Env, number: usize) -> bool {
+    let mut path = [0; PATH];
+    let n = argument(rt, number, &mut path);
     if n != 1 {
         return false;
     }
@@ -270,6 +338,7 @@ fn is_own(number: usize) -> bool {
 
 // All files, read.
 fn read_files(
+    rt: &(impl Files + Env + Eprint),
     number: usize,
     n: usize,
     text: &mut [u8],
@@ -286,9 +355,10 @@ fn read_files(
     ensures count_bound { result.count ≤ 458_759 }
     ensures room { Room kinds.new firsts.new seconds.new amounts.new wheres.new × (length ends.new ≡ 7) × (length tops.new ≡ 7) × (length lines.new ≡ 458_759) }
 {
-    let own = is_own(number);
-    let first = read_first(own, number, text, kinds, firsts, seconds, amounts, wheres);
+    let own = is_own(rt, number);
+    let first = read_first(rt, own, number, text, kinds, firsts, seconds, amounts, wheres);
     let read = read_sites(
+        rt,
         own,
         number + 1,
         n,
@@ -310,24 +380,22 @@ fn read_files(
 }
 
 // The report of a refusal; no report of one is longer than the buffer.
-fn say_refused(refused: Refused) {
-    let mut out = io::buffer();
+fn say_refused(rt: &(impl Print + Eprint), refused: Refused) {
+    let mut out = [0; REFUSAL];
     let end = put_refused(refused, 0, &mut out);
     if end <= out.len() {
-        write_out(&out[..end]);
+        write_out(rt, &out[..end]);
     }
 }
 
 // Said where a report is longer than its buffer.
-fn say_too_long() {
-    io::write_all(
-        STDERR_FILENO,
-        b"The report is too long to be written; there is no verdict.\n",
-    );
+fn say_too_long(rt: &impl Eprint) {
+    let _ = rt.eprintln("The report is too long to be written; there is no verdict.");
 }
 
 // The report of what was read.
 fn report_read(
+    rt: &(impl Print + Eprint),
     matrix: u16,
     kinds: &[u8],
     firsts: &[u8],
@@ -343,7 +411,7 @@ fn report_read(
     let mut marks = [0; POSTINGS];
     let mut ahead = [0; AHEAD];
     let mut figures = [0; FIGURES];
-    let mut out = io::large_buffer();
+    let mut out = [0; OUTPUT];
     let answer = report(
         matrix,
         kinds,
@@ -361,16 +429,16 @@ fn report_read(
     );
     match answer {
         Printed::Written(count) => {
-            write_out(&out[..count]);
+            write_out(rt, &out[..count]);
         }
         Printed::Short => {
-            say_too_long();
+            say_too_long(rt);
         }
     }
 }
 
 // The report of files: read one after another into one buffer, judged, audited.
-fn report_on(matrix: u16, number: usize, n: usize)
+fn report_on(rt: &(impl Files + Env + Print + Eprint), matrix: u16, number: usize, n: usize)
     requires { (n ≤ 7) × (number < 1_000_000) }
 {
     let mut text = [0; TEXT];
@@ -383,6 +451,7 @@ fn report_on(matrix: u16, number: usize, n: usize)
     let mut ends = [0; SITES];
     let mut tops = [1; SITES];
     let read = read_files(
+        rt,
         number,
         n,
         &mut text,
@@ -396,10 +465,11 @@ fn report_on(matrix: u16, number: usize, n: usize)
         &mut tops,
     );
     if read.refused.code != 0 {
-        say_refused(read.refused);
+        say_refused(rt, read.refused);
         return;
     }
     report_read(
+        rt,
         matrix,
         &kinds,
         &firsts,
@@ -413,21 +483,21 @@ fn report_on(matrix: u16, number: usize, n: usize)
 }
 
 // A site and its file, in a line.
-fn name_site(number: usize, p: usize) {
-    let mut path = io::buffer();
-    let n = os::arg(number, &mut path);
-    write_out(b"Site ");
-    io::print_decimal(STDOUT_FILENO, p as u64);
-    write_out(b" is ");
-    write_out(&path[..n]);
-    write_out(b".\n");
+fn name_site(rt: &(impl Env + Print + Eprint), number: usize, p: usize) {
+    let mut path = [0; PATH];
+    let n = argument(rt, number, &mut path);
+    write_out(rt, b"Site ");
+    let _ = rt.print(p);
+    write_out(rt, b" is ");
+    write_out(rt, &path[..n]);
+    write_out(rt, b".\n");
 }
 
-fn name_sites(number: usize, n: usize)
+fn name_sites(rt: &(impl Env + Print + Eprint), number: usize, n: usize)
     requires { (n ≤ 7) × (number ≤ 1_000_000) }
 {
     for p in 0..n {
-        name_site(number + p, p);
+        name_site(rt, number + p, p);
     }
 }
 
@@ -477,11 +547,11 @@ fn hex_number(text: &[u8]) -> usize
 }
 
 // The matrix that an argument gives, which begins with 0x; NO_MATRIX if it gives none.
-fn matrix_at(number: usize) -> usize
+fn matrix_at(rt: &impl Env, number: usize) -> usize
     ensures { result ≤ 65_536 }
 {
-    let mut path = io::buffer();
-    let n = os::arg(number, &mut path);
+    let mut path = [0; PATH];
+    let n = argument(rt, number, &mut path);
     if n < 2 {
         return NO_MATRIX;
     }
@@ -495,35 +565,35 @@ fn matrix_at(number: usize) -> usize
 }
 
 // The arguments from a file of postings on, up to an end.
-fn audit_from(matrix: u16, number: usize, end: usize)
+fn audit_from(rt: &(impl Files + Env + Print + Eprint), matrix: u16, number: usize, end: usize)
     requires { (number < 1_000_000) × (end < 1_000_000) }
 {
     if end <= number + 1 {
-        say_refused(refusing(1, 0, 0, 0, 0));
+        say_refused(rt, refusing(1, 0, 0, 0, 0));
         return;
     }
     let n = end - number - 1;
     if SITES < n {
-        say_refused(refusing(1, 0, 0, 0, 0));
+        say_refused(rt, refusing(1, 0, 0, 0, 0));
         return;
     }
     let pairs = matrix_ok(matrix);
     if pairs == false {
-        say_refused(refusing(2, 0, 0, 0, 0));
+        say_refused(rt, refusing(2, 0, 0, 0, 0));
         return;
     }
-    report_on(matrix, number, n);
-    name_sites(number + 1, n);
+    report_on(rt, matrix, number, n);
+    name_sites(rt, number + 1, n);
 }
 
 // The audit of the arguments from one up to another, which is not among them: perhaps a matrix, the file of postings or `-`, and a record for each site.
-pub fn audit(number: usize, end: usize)
+pub fn audit(rt: &(impl Files + Env + Print + Eprint), number: usize, end: usize)
     requires { (number < 900_000) × (end < 900_000) }
 {
-    let given = matrix_at(number);
+    let given = matrix_at(rt, number);
     if given == NO_MATRIX {
-        audit_from(FIXED_PAIRS, number, end);
+        audit_from(rt, FIXED_PAIRS, number, end);
         return;
     }
-    audit_from(given as u16, number + 1, end);
+    audit_from(rt, given as u16, number + 1, end);
 }

@@ -23,6 +23,7 @@ use Rattle.audit_rule.proofs.Lines.{fits_clean, clean_fits}
 use Rattle.audit_rule.proofs.First.{Fine, audit_fine, audit_first}
 
 pub in_place : (y : ℕ) (l : List ℕ) → In y l → (i : ℕ) × (i < length l) × (get_or l i 0 ≡ y)
+in_place y mathlib.Core.List.[] x' = elim x' [ ]
 in_place y (z ∷ l) (inl e) = (zero, omega arith, sym e)
 in_place y (z ∷ l) (inr m) = let (i, h, e) = in_place y l m in (suc i, omega (arith, h), e)
 

@@ -22,6 +22,7 @@ use Rattle.audit_rule.proofs.Answer.{in_taken}
 
 -- only the part that has y counts
 ahead_front : (x y : ℕ) (l r : List ℕ) → In y l → ahead_of x y (l ++ r) ≡ ahead_of x y l
+ahead_front x y [] r x'' = elim x'' [ ]
 ahead_front x y (z ∷ l) r (inl e) = rw (eqb_yes z y (sym e))
 ahead_front x y (z ∷ l) r (inr m) = rw (ahead_front x y l r m)
 

@@ -27,6 +27,7 @@ ahead_of_lem x y (z ∷ l) e =
     ]
 
 pub of_ahead : (x y : ℕ) (l : List ℕ) → Ahead x y l → ahead_of x y l ≡ true
+of_ahead x y [] x'' = elim x'' [ ]
 of_ahead x y (z ∷ l) (d, inl e) = rw (eqb_no z y d, eqb_yes x z e)
 of_ahead x y (z ∷ l) (d, inr h) = rw (eqb_no z y d) (or_i_r (eqb x z) (ahead_of x y l) (of_ahead x y l h))
 

@@ -35,6 +35,7 @@ joined_split records p (suc k) h = elim (same_or p k) [
 ]
 
 norepeat_middle : (y : ℕ) (above below : List ℕ) → NoRepeat (above ++ y ∷ below) → ¬ In y above
+norepeat_middle y [] below d x'' = elim x'' [ ]
 norepeat_middle y (z ∷ l) below d (inl e) = d.0 (in_right z l (y ∷ below) (inl (sym e)))
 norepeat_middle y (z ∷ l) below d (inr m) = norepeat_middle y l below d.1 m
 

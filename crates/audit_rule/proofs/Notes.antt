@@ -33,6 +33,7 @@ once_new (x ∷ l) y h =
     ap (λ (r : List ℕ). x ∷ r) (ap (keep (λ z. not (eqb z x))) (once_new l y (λ m. h (inr m))) ∙ keep_snoc (λ z. not (eqb z x)) (once l) y ∙ rw (eqb_no y x (λ e. h (inl e))))
 
 pub once_old : (l : List ℕ) (y : ℕ) → In y l → once (l ++ (y ∷ [])) ≡ once l
+once_old [] y m = elim m [ ]
 once_old (x ∷ l) y m = elim (in_or y l) [
   | inl k ↦ ap (λ (r : List ℕ). x ∷ keep (λ z. not (eqb z x)) r) (once_old l y k)
   | inr lacks ↦
@@ -52,6 +53,7 @@ up_to_new [] y h = refl
 up_to_new (x ∷ l) y h = rw (eqb_no x y (λ e. h (inl (sym e)))) (ap (λ (r : List ℕ). x ∷ r) (up_to_new l y (λ m. h (inr m))))
 
 pub up_to_snoc : (l : List ℕ) (y z : ℕ) → In z l → up_to z (l ++ (y ∷ [])) ≡ up_to z l
+up_to_snoc [] y z m = elim m [ ]
 up_to_snoc (x ∷ l) y z m = elim (same_or x z) [
   | inl e ↦ rw (eqb_yes x z e)
   | inr d ↦ rw (eqb_no x z d) (ap (λ (r : List ℕ). x ∷ r) (up_to_snoc l y z (elim m [ inl e ↦ absurd (d (sym e)) | inr k ↦ k ])))

@@ -55,6 +55,7 @@ order_norepeats {conflict} {n} {records} {order} a p l = exchanged_norepeat (a.b
 
 -- of two members one stands ahead of the other
 pub either_before : (x y : ℕ) (l : List ℕ) → x ≢ y → In x l → In y l → Before x y l ⊎ Before y x l
+either_before x y mathlib.Core.List.[] d x4 _ = elim x4 [ ]
 either_before x y (z ∷ l) d (inl e) (inl k) = absurd (d (e ∙ sym k))
 either_before x y (z ∷ l) d (inl e) (inr k) = inl (inl (e, k))
 either_before x y (z ∷ l) d (inr h) (inl k) = inr (inl (k, h))
@@ -62,15 +63,18 @@ either_before x y (z ∷ l) d (inr h) (inr k) = elim (either_before x y l d h k)
 
 -- without repeats, ahead of one y is ahead of the first
 pub before_ahead : (x y : ℕ) (l : List ℕ) → NoRepeat l → Before x y l → Ahead x y l
+before_ahead x y mathlib.Core.List.[] d x3 = elim x3 [ ]
 before_ahead x y (z ∷ l) d (inl h) = (λ e. d.0 (rw e h.1), inl h.0)
 before_ahead x y (z ∷ l) d (inr h) = (λ e. d.0 (rw e (before_right x y l h)), inr (before_ahead x y l d.1 h))
 
 pub ahead_before : (x y : ℕ) (l : List ℕ) → In y l → Ahead x y l → Before x y l
+ahead_before x y mathlib.Core.List.[] x3 _ = elim x3 [ ]
 ahead_before x y (z ∷ l) (inl e) (d, h) = absurd (d (sym e))
 ahead_before x y (z ∷ l) (inr m) (d, inl e) = inl (e, m)
 ahead_before x y (z ∷ l) (inr m) (d, inr h) = inr (ahead_before x y l m h)
 
 pub ahead_in : (x y : ℕ) (l : List ℕ) → Ahead x y l → In x l
+ahead_in x y mathlib.Core.List.[] x'' = elim x'' [ ]
 ahead_in x y (z ∷ l) (d, inl e) = inl e
 ahead_in x y (z ∷ l) (d, inr h) = inr (ahead_in x y l h)
 

@@ -29,12 +29,14 @@ drop_one y [] = []
 drop_one y (z ∷ l) = cond (eqb z y) l (z ∷ drop_one y l)
 
 drop-length : (y : ℕ) (l : List ℕ) → In y l → length l ≡ suc (length (drop_one y l))
+drop-length y [] m = elim m [ ]
 drop-length y (z ∷ l) m = elim (same_or z y) [
   | inl e ↦ rw (eqb_yes z y e)
   | inr d ↦ rw (eqb_no z y d) (ap suc (drop-length y l (elim m [ inl e ↦ absurd (d (sym e)) | inr k ↦ k ])))
 ]
 
 drop_in : (y x : ℕ) (l : List ℕ) → In x l → x ≢ y → In x (drop_one y l)
+drop_in y x [] m d = elim m [ ]
 drop_in y x (z ∷ l) m d = elim (same_or z y) [
   | inl e ↦ rw (eqb_yes z y e) (elim m [ inl k ↦ absurd (d (k ∙ e)) | inr k ↦ k ])
   | inr c ↦ rw (eqb_no z y c) (elim m [ inl k ↦ inl k | inr k ↦ inr (drop_in y x l k d) ])
@@ -59,12 +61,14 @@ within_full l r dl dr h e x m = elim (in_or x l) [
 -- ---- what stands ahead
 
 pub up_to_in : (x y : ℕ) (l : List ℕ) → In x (up_to y l) → Ahead x y l
+up_to_in x y [] m = elim m [ ]
 up_to_in x y (z ∷ l) m = elim (same_or z y) [
   | inl e ↦ absurd (rw (eqb_yes z y e) at m)
   | inr d ↦ elim (rw (eqb_no z y d) at m) [ inl k ↦ (d, inl k) | inr k ↦ (d, inr (up_to_in x y l k)) ]
 ]
 
 pub in_up_to : (x y : ℕ) (l : List ℕ) → Ahead x y l → In x (up_to y l)
+in_up_to x y [] x'' = elim x'' [ ]
 in_up_to x y (z ∷ l) (d, inl e) = rw (eqb_no z y d) (inl e)
 in_up_to x y (z ∷ l) (d, inr h) = rw (eqb_no z y d) (inr (in_up_to x y l h))
 
@@ -77,10 +81,12 @@ up_to_norepeat y (z ∷ l) d = elim (same_or z y) [
 
 -- ahead among the first occurrences is ahead
 once_ahead : (x y : ℕ) (l : List ℕ) → Ahead x y (once l) → Ahead x y l
+once_ahead x y [] x'' = elim x'' [ ]
 once_ahead x y (z ∷ l) (d, inl e) = (d, inl e)
 once_ahead x y (z ∷ l) (d, inr h) = (d, inr (once_ahead x y l (keep_ahead (λ w. not (eqb w z)) x y (once l) (rw (eqb_no y z (λ e. d (sym e)))) h)))
 
 ahead_keep : (q : ℕ → Bool) (x y : ℕ) (l : List ℕ) → q x ≡ true → Ahead x y l → Ahead x y (keep q l)
+ahead_keep q x y [] t x3 = elim x3 [ ]
 ahead_keep q x y (z ∷ l) t (d, inl e) = rw (rw e at t) (d, inl e)
 ahead_keep q x y (z ∷ l) t (d, inr h) = elim (test (q z)) [
   | inl u ↦ rw u (d, inr (ahead_keep q x y l t h))
@@ -88,6 +94,7 @@ ahead_keep q x y (z ∷ l) t (d, inr h) = elim (test (q z)) [
 ]
 
 ahead_once : (x y : ℕ) (l : List ℕ) → Ahead x y l → Ahead x y (once l)
+ahead_once x y [] x'' = elim x'' [ ]
 ahead_once x y (z ∷ l) (d, inl e) = (d, inl e)
 ahead_once x y (z ∷ l) (d, inr h) = elim (same_or x z) [
   | inl e ↦ (d, inl e)
@@ -95,6 +102,7 @@ ahead_once x y (z ∷ l) (d, inr h) = elim (same_or x z) [
 ]
 
 pub every_in : (q : ℕ → Bool) (l : List ℕ) → every q l ≡ true → (x : ℕ) → In x l → q x ≡ true
+every_in q [] t x x4 = elim x4 [ ]
 every_in q (y ∷ l) t x (inl e) = rw e (and_l (q y) (every q l) t)
 every_in q (y ∷ l) t x (inr m) = every_in q l (and_r (q y) (every q l) t) x m
 

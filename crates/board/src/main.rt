@@ -1,5 +1,7 @@
 // Program `board`: a run file on standard input, run and printed.
 // Rests on program.
-fn main() {
-    program::print_from(0);
+#![tactic(auto)]
+
+fn main(rt: HostRuntime) {
+    program::print_from(&rt, &mut rt.stdin());
 }

@@ -18,7 +18,7 @@ pub const SITES: usize = masks::SITES as usize;
 pub const FIGURES: usize = 4 * ACCOUNTS;
 
 // The four numbers of an account.
-#[derive(Drop)]
+#[derive(Clone, Copy)]
 pub struct Figures {
     pub position: i64,
     pub rate: i64,
@@ -27,13 +27,13 @@ pub struct Figures {
 }
 
 // The figures of all accounts.
-#[derive(Drop)]
+#[derive(Clone, Copy)]
 pub struct Sheet {
     pub accounts: [Figures; ACCOUNTS],
 }
 
 // The records of the sites, by number.
-#[derive(Drop)]
+#[derive(Clone, Copy)]
 pub struct Records {
     pub sites: [Record; SITES],
 }

@@ -1,47 +1,54 @@
 // What `board` and then `statement` print for each run file that an argument names: the repository's examples, stored as cases.
-// Rests on program, on os and libc for files.
+// Rests on program, on std for files.
+#![tactic(auto)]
 
-// The file that an argument names, opened; below 0 if it cannot be, which is said.
-fn open_case(number: usize) -> i32 {
-    let mut path = io::buffer();
-    let length = os::arg(number, &mut path);
-    let fd = os::open_read(&path[..length]);
-    if fd < 0 {
-        os::fail(&path[..length]);
+use std::rt::{Env, Files};
+use std::{fs, str};
+
+// The longest name of a file.
+const PATH: usize = 4096;
+
+// The file that an argument names, opened; if it cannot be, that is said.
+fn open_case<R: Files + Env + Eprint>(rt: &R, number: usize) -> Option<R::File> {
+    let mut path = [0; PATH];
+    let length = rt.arg(number, &mut path).unwrap_or(0);
+    let Ok(path) = str::from_utf8(&path[..length]) else {
+        let _ = eprintln!(rt; "Argument {number} is no text.");
+        return None;
+    };
+    match fs::open(rt, path) {
+        Ok(file) => Some(file),
+        Err(error) => {
+            let _ = eprintln!(rt; "{path}: {error}");
+            None
+        }
     }
-    fd
 }
 
-fn print_board(number: usize) {
-    let fd = open_case(number);
-    if fd < 0 {
-        return;
+fn print_board(rt: &(impl Files + Env + Print + Eprint), number: usize) {
+    if let Some(mut file) = open_case(rt, number) {
+        program::print_from(rt, &mut file);
     }
-    program::print_from(fd);
-    libc::close(fd);
 }
 
-fn print_statement(number: usize) {
-    let fd = open_case(number);
-    if fd < 0 {
-        return;
+fn print_statement(rt: &(impl Files + Env + Print + Eprint), number: usize) {
+    if let Some(mut file) = open_case(rt, number) {
+        program::state_from(rt, &mut file);
     }
-    program::state_from(fd);
-    libc::close(fd);
 }
 
-fn print_case(number: usize) {
-    print_board(number);
-    print_statement(number);
+fn print_case(rt: &(impl Files + Env + Print + Eprint), number: usize) {
+    print_board(rt, number);
+    print_statement(rt, number);
 }
 
-fn main() {
-    print_case(1);
-    print_case(2);
-    print_case(3);
-    print_case(4);
-    print_case(5);
-    print_case(6);
-    print_case(7);
-    print_case(8);
+fn main(rt: HostRuntime) {
+    print_case(&rt, 1);
+    print_case(&rt, 2);
+    print_case(&rt, 3);
+    print_case(&rt, 4);
+    print_case(&rt, 5);
+    print_case(&rt, 6);
+    print_case(&rt, 7);
+    print_case(&rt, 8);
 }

@@ -21,7 +21,7 @@ pub const LOADS: usize = PAIRS * WORDS;
 
 // Receivers by form, posting and sender; of a SECOND, those to whom it says GOOD, by posting and sender;
 // of a THIRD, the words of its carried set, by posting, sender and word.
-#[derive(Drop)]
+#[derive(Clone, Copy)]
 pub struct Flight {
     pub masks: [u8; MASKS],
     pub good: [u8; PAIRS],

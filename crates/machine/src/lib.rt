@@ -10,7 +10,7 @@ pub mod service;
 pub mod sound;
 pub mod taking;
 
-#[derive(Drop)]
+#[derive(Clone, Copy)]
 pub struct Board {
     pub setup: Setup,
     // the sites that are down

@@ -41,7 +41,7 @@ pub const FIXED_PAIRS: [[u8; 4]; 4] = [
 ];
 
 // A row of the table: the site that offered it, then the fields of document 01's table of kinds.
-#[derive(Drop)]
+#[derive(Clone, Copy)]
 pub struct Posting {
     pub owner: u8,
     pub kind: u8,
@@ -51,14 +51,14 @@ pub struct Posting {
 }
 
 // The postings offered, by number; rows from the count on hold nothing.
-#[derive(Drop)]
+#[derive(Clone, Copy)]
 pub struct Table {
     pub count: usize,
     pub rows: [Posting; POSTINGS],
 }
 
 // Posting numbers in order; places from the count on hold nothing.
-#[derive(Drop)]
+#[derive(Clone, Copy)]
 pub struct Record {
     pub count: usize,
     pub numbers: [u8; POSTINGS],

@@ -6,7 +6,7 @@ use posting::Record;
 pub mod print;
 
 // What is shown of the board that a run ends on.
-#[derive(Drop)]
+#[derive(Clone, Copy)]
 pub struct Ended {
     // how many sites there are
     pub n: u8,

@@ -24,7 +24,7 @@ pub fn wide32(x: u8) -> u32
 }
 
 // A set of posting numbers: number m is bit m % 64 of word m / 64.
-#[derive(Drop)]
+#[derive(Clone, Copy)]
 pub struct Set {
     pub words: [u64; WORDS],
 }

@@ -12,7 +12,7 @@ use sets::{POSTINGS, Set};
 pub const SITES: usize = masks::SITES as usize;
 
 // What a start takes: n sites, f crashes allowed, the yes/no matrix over kinds.
-#[derive(Drop)]
+#[derive(Clone, Copy)]
 pub struct Setup {
     pub n: u8,
     pub f: u8,
@@ -20,7 +20,7 @@ pub struct Setup {
 }
 
 // What belongs to one site. Masks of senders stand by posting.
-#[derive(Drop)]
+#[derive(Clone, Copy)]
 pub struct Site {
     pub seen: Set,
     pub held: Set,
@@ -38,7 +38,7 @@ pub struct Site {
 }
 
 // The third round of one posting, at its owner: THIRD heard from these senders, those whose set had the posting, the union of the sets.
-#[derive(Drop)]
+#[derive(Clone, Copy)]
 pub struct Tally {
     pub heard: u8,
     pub has: u8,

@@ -4,7 +4,7 @@ pub mod cuts;
 pub mod refusals;
 
 // Whether a step is taken whole, or cut after its first sends.
-#[derive(Drop)]
+#[derive(Clone, Copy)]
 pub enum Cut {
     Whole,
     After(usize),

@@ -12,4 +12,4 @@ pub returns : goal.returns
 unfolding relay_to
 returns c =
     let args = c.args in
-    rw (ne_eqb args.p args.owner c.if-p-owner.false, c.only_site_lem.ensures, c.every_site_lem.ensures)
+    rw (ne_eqb args.p args.owner c.if-p-owner.false, c.only_site-own.ensures, c.every_site-every.ensures)

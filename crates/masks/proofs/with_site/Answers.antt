@@ -3,4 +3,4 @@
 use Rattle.masks.proofs.with_site.Goals as goal
 
 pub returns : goal.returns
-returns c = rw c.only_site_lem.ensures
+returns c = rw c.only_site.ensures

@@ -1,0 +1,19 @@
+-- `taken` meets its contract.
+-- Assumes nothing.
+use borrow.Author.Tests.{eq-eqb, ne_eqb}
+use Rattle.audit_pair.specs.Pair.{taken}
+use Rattle.audit_pair.proofs.taken.Goals as goal
+
+pub returns-then-code-own : goal.returns-then-code-own
+unfolding taken
+returns-then-code-own c = let v = c.args in rw (ne_eqb v.code v.own c.if-code-own.true)
+
+pub returns-then-lowest-n : goal.returns-then-lowest-n
+unfolding taken
+returns-then-lowest-n c =
+    let v = c.args in rw (eq-eqb v.code v.own c.if-code-own.false, eq-eqb v.lowest v.n c.if-lowest-n.true)
+
+pub returns : goal.returns
+unfolding taken
+returns c =
+    let v = c.args in rw (eq-eqb v.code v.own c.if-code-own.false, ne_eqb v.lowest v.n c.if-lowest-n.false)

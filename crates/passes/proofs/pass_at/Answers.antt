@@ -1,0 +1,178 @@
+-- `pass_at` meets its contract: after i lines the sheet is that of the first i posting numbers, and i places were visited.
+-- Assumes nothing.
+use mathlib.Core.Path.{◌≡◌, refl, sym, ap, ◌∙◌}
+use mathlib.Core.Logic.{⊎_elim}
+use mathlib.Core.Bool.{false}
+use mathlib.Core.List.{[]}
+use Prim.Native.Nat.{ℕ, ◌+◌, ◌<◌, ◌-◌}
+use native.Mathlib.Omega.{arith}
+use borrow.Author.Rules.{rules}
+use Rattle.posting.specs.declared.Posting.{Posting}
+use Rattle.posting.specs.Kinds.{accounts, nets_all}
+use Rattle.posting.specs.Records.{numbers_of}
+use Rattle.books.specs.Books.{books, sheet_of}
+use Rattle.books.specs.declared.Sheet.{Sheet}
+use Rattle.books.specs.Bounds.{Postable}
+use Rattle.books.proofs.Sheets.{Line, line_roomy, line_nets_all}
+use Rattle.arrays.specs.Arrays.{Arrays, arrays}
+use Rattle.views.specs.Views.{record_in, table_of}
+use Rattle.passes.proofs.RecordLines.{books_to, count_few, places_are, below, line_here, trade_accounts, trade_room_a, trade_room_b, trade_line, one_account, one_room, one_line}
+use Rattle.passes.proofs.pass_at.Goals as goal
+use Rattle.passes.proofs.pass_at.Goals.{After-row_of-p, After-wide-a, After-wide-b, After-wide-k, Start}
+
+abbrev Start : Type 0
+Start = Start
+
+-- the board at work, and that its record may be posted
+module _ (c : Start) where
+  abbrev a : Arrays
+  a = arrays [] c.args.counts.now c.args.bytes.now c.args.amounts.now [] [] []
+
+  abbrev site : ℕ
+  site = c.args.site
+
+  abbrev postable : Postable (table_of a) (record_in a site)
+  postable = c.requires.1
+
+-- a line, once its row is read
+module _ (c : After-row_of-p) where
+  abbrev start : Start
+  start = c.before.before.before.before.before.before.before
+
+  abbrev i : ℕ
+  i = c.loop-i.i
+
+  abbrev sheet : Sheet
+  sheet = c.loop-i.sheet
+
+  abbrev posting : Posting
+  posting = c.row_of-p.result
+
+  here : i < (record_in (a start) (site start)).count
+  unfolding record_in
+  here = c.loop-i-test.true
+
+  on_line : Line (books_to (a start) (site start) (postable start) i) posting (books_to (a start) (site start) (postable start) (i + 1)) sheet
+  on_line = line_here (a start) (site start) (postable start) i here c.wide-m.result c.wide-m.ensures posting (c.row_of-p.ensures [] start.args.counts.now [] [] []) sheet c.loop-i.invariant.1
+
+-- a TRADE
+module _ (c : After-wide-a) where
+  abbrev of-trade : After-row_of-p
+  of-trade = c.before.before.before
+
+  a-within : c.wide-a.result < accounts
+  a-within = omega (arith, (trade_accounts (on_line of-trade) c.wide-a.result c.wide-a.ensures c.if-p-eq-TRADE.true).0, c.wide-a.ensures)
+
+b-within : (c : After-wide-b) → c.wide-b.result < accounts
+b-within c =
+    let at = c.before.before.before in
+    omega (arith, (trade_accounts (on_line (of-trade at)) at.wide-a.result at.wide-a.ensures at.if-p-eq-TRADE.true).1, c.wide-b.ensures)
+
+-- a posting of one account
+module _ (c : After-wide-k) where
+  abbrev of_one : After-row_of-p
+  of_one = c.before.before.before.before.before
+
+  named : nets_all (posting of_one) ≡ false
+  named = sym c.net_of_all.ensures ∙ c.if-net_of_all.false
+
+  k-within : c.wide-k.result < accounts
+  k-within = omega (arith, one_account (on_line of_one) c.wide-k.result c.wide-k.ensures c.if-p-eq-TRADE.false named, c.wide-k.ensures)
+
+pub loop-i-init : goal.loop-i-init
+unfolding books
+loop-i-init c = (search rules, c.blank-sheet.ensures, refl)
+
+pub overflow_add-from-in-loop-i : goal.overflow_add-from-in-loop-i
+overflow_add-from-in-loop-i c = record { fits = omega (arith, count_few (a (goal.at.overflow_add-from-in-loop-i c).Start) (site (goal.at.overflow_add-from-in-loop-i c).Start) (postable (goal.at.overflow_add-from-in-loop-i c).Start), c.loop-i-test.true, c.requires.0) }
+
+pub bounds-bytes-from : goal.bounds-bytes-from
+bounds-bytes-from c =
+    omega (arith, count_few (a (goal.at.bounds-bytes-from c).Start) (site (goal.at.bounds-bytes-from c).Start) (postable (goal.at.bounds-bytes-from c).Start), c.loop-i-test.true, c.requires.0)
+
+pub row_of-p-requires : goal.row_of-p-requires
+row_of-p-requires c =
+    below (a (goal.at.row_of-p-requires c).Start) (site (goal.at.row_of-p-requires c).Start) (postable (goal.at.row_of-p-requires c).Start) c.loop-i.i (unfold record_in in c.loop-i-test.true) c.wide-m.result c.wide-m.ensures
+
+pub offset_bounds-sheet-a : goal.offset_bounds-sheet-a
+offset_bounds-sheet-a c = record { fits = omega (arith, a-within (goal.at.offset_bounds-sheet-a c).After-wide-a) }
+
+pub bounds-sheet-a : goal.bounds-sheet-a
+bounds-sheet-a c = a-within (goal.at.bounds-sheet-a c).After-wide-a
+
+pub trade-t-requires : goal.trade-t-requires
+trade-t-requires c =
+    trade_room_a (on_line (of-trade (goal.at.trade-t-requires (goal.at.trade-t-requires c).After-wide-a).After-row_of-p)) c.wide-a.result c.wide-a.ensures c.if-p-eq-TRADE.true
+
+pub offset_bounds-sheet-a-then-p-eq-TRADE : goal.offset_bounds-sheet-a-then-p-eq-TRADE
+offset_bounds-sheet-a-then-p-eq-TRADE c = record { fits = omega (arith, a-within (goal.at.offset_bounds-sheet-a-then-p-eq-TRADE c).After-wide-a) }
+
+pub bounds-sheet-a-then-p-eq-TRADE : goal.bounds-sheet-a-then-p-eq-TRADE
+bounds-sheet-a-then-p-eq-TRADE c = a-within (goal.at.bounds-sheet-a-then-p-eq-TRADE c).After-wide-a
+
+pub offset_bounds-sheet-b : goal.offset_bounds-sheet-b
+offset_bounds-sheet-b c = record { fits = omega (arith, b-within (goal.at.offset_bounds-sheet-b c).After-wide-b) }
+
+pub bounds-sheet-b : goal.bounds-sheet-b
+bounds-sheet-b c = b-within (goal.at.bounds-sheet-b c).After-wide-b
+
+pub trade-v-requires : goal.trade-v-requires
+trade-v-requires c =
+    let t = c.trade-t in
+    let b = c.wide-b in
+    trade_room_b (on_line (of-trade (goal.at.trade-v-requires (goal.at.trade-v-requires c).After-wide-a).After-row_of-p)) c.wide-a.result c.wide-a.ensures c.if-p-eq-TRADE.true t.result b.result t.ensures b.ensures
+
+pub offset_bounds-sheet-b-then-p-eq-TRADE : goal.offset_bounds-sheet-b-then-p-eq-TRADE
+offset_bounds-sheet-b-then-p-eq-TRADE c = record { fits = omega (arith, b-within (goal.at.offset_bounds-sheet-b-then-p-eq-TRADE c).After-wide-b) }
+
+pub bounds-sheet-b-then-p-eq-TRADE : goal.bounds-sheet-b-then-p-eq-TRADE
+bounds-sheet-b-then-p-eq-TRADE c = b-within (goal.at.bounds-sheet-b-then-p-eq-TRADE c).After-wide-b
+
+pub net_all-sheet-requires : goal.net_all-sheet-requires
+net_all-sheet-requires c = line_roomy (on_line (goal.at.net_all-sheet-requires c).After-row_of-p)
+
+pub offset_bounds-sheet-k : goal.offset_bounds-sheet-k
+offset_bounds-sheet-k c = record { fits = omega (arith, k-within (goal.at.offset_bounds-sheet-k c).After-wide-k) }
+
+pub bounds-sheet-k : goal.bounds-sheet-k
+bounds-sheet-k c = k-within (goal.at.bounds-sheet-k c).After-wide-k
+
+pub change-t-requires : goal.change-t-requires
+change-t-requires c =
+    one_room (on_line (of_one (goal.at.change-t-requires (goal.at.change-t-requires c).After-wide-k).After-row_of-p)) c.wide-k.result c.wide-k.ensures c.if-p-eq-TRADE.false (named (goal.at.change-t-requires c).After-wide-k)
+
+pub offset_bounds-sheet-k-else-net_of_all : goal.offset_bounds-sheet-k-else-net_of_all
+offset_bounds-sheet-k-else-net_of_all c = record { fits = omega (arith, k-within (goal.at.offset_bounds-sheet-k-else-net_of_all c).After-wide-k) }
+
+pub bounds-sheet-k-else-net_of_all : goal.bounds-sheet-k-else-net_of_all
+bounds-sheet-k-else-net_of_all c = k-within (goal.at.bounds-sheet-k-else-net_of_all c).After-wide-k
+
+pub overflow_add-places : goal.overflow_add-places
+overflow_add-places c =
+    let from = start (goal.at.overflow_add-places c).After-row_of-p in
+    let at = c.loop-i in
+    record { fits = omega (arith, count_few (a from) (site from) (postable from), c.loop-i-test.true, at.invariant.2) }
+
+pub overflow_step-i : goal.overflow_step-i
+overflow_step-i c =
+    let from = start (goal.at.overflow_step-i c).After-row_of-p in
+    record { fits = omega (arith, count_few (a from) (site from) (postable from), c.loop-i-test.true) }
+
+pub loop-i-preserved : goal.loop-i-preserved
+loop-i-preserved c =
+    let at = c.loop-i in (
+      omega (arith, c.loop-i-test.true),
+      ⊎_elim
+          (λ w. w.7 ∙ trade_line (on_line (goal.at.loop-i-preserved c).After-row_of-p) w.1.result w.1.ensures w.0.taken w.3.result w.4.result w.3.ensures w.4.ensures w.6.result w.6.ensures)
+          (⊎_elim
+          (λ w. w.4 ∙ w.3.ensures ∙ line_nets_all (on_line (goal.at.loop-i-preserved c).After-row_of-p) (sym w.1.ensures ∙ w.2.taken))
+          (λ w. w.6 ∙ one_line (on_line (goal.at.loop-i-preserved c).After-row_of-p) w.3.result w.3.ensures w.0.left (sym w.1.ensures ∙ w.2.left) w.5.result w.5.ensures))
+          c.if-p-eq-TRADE.branch,
+      ap (λ (n : ℕ). n + 1) at.invariant.2,
+    )
+
+pub returns : goal.returns
+unfolding numbers_of
+returns c =
+    let at = c.loop-i in
+    let e : at.i ≡ (record_in (a (goal.at.returns c).Start) (site (goal.at.returns c).Start)).count = unfold record_in in omega arith in record { sheet_value = at.invariant.1 ∙ ap (λ (n : ℕ). sheet_of (books_to (a (goal.at.returns c).Start) (site (goal.at.returns c).Start) (postable (goal.at.returns c).Start) n)) e; places_value = at.invariant.2 ∙ e ∙ sym (places_are (a (goal.at.returns c).Start) (site (goal.at.returns c).Start) (postable (goal.at.returns c).Start)) }

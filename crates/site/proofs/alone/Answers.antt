@@ -1,0 +1,8 @@
+-- `alone` meets its contract.
+-- Assumes nothing.
+use Rattle.site.specs.Steps.{alone}
+use Rattle.site.proofs.alone.Goals as goal
+
+pub returns : goal.returns
+unfolding alone
+returns c = rw (c.subset.ensures, c.with-one.ensures, c.empty-none.ensures, c.meet-both.ensures)

@@ -1,0 +1,19 @@
+-- `entries_of` meets its contract.
+-- Assumes nothing.
+use Prim.Native.Nat.{◌-◌}
+use Rattle.sets.specs.Sets.{capacity}
+use Rattle.site.specs.Sites.{no_set}
+use Rattle.views.proofs.Filled.{filled_begin, filled_step, filled_all}
+use borrow.Author.Rules.{rules}
+use Rattle.views.proofs.entries_of.Goals as goal
+
+pub loop-m-init : goal.loop-m-init
+loop-m-init c = (search rules, filled_begin capacity _ no_set _)
+
+pub loop-m-preserved : goal.loop-m-preserved
+loop-m-preserved c =
+    let at = c.loop-m in
+    (search rules, filled_step capacity _ no_set at.all at.m c.load-s.result c.loop-m-test.true c.load-s.ensures at.invariant.1)
+
+pub returns : goal.returns
+returns c = filled_all capacity _ no_set c.loop-m.all c.loop-m.m c.loop-m-test.false c.loop-m.invariant.1

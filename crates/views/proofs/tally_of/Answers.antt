@@ -1,0 +1,8 @@
+-- `tally_of` meets its contract.
+-- Assumes nothing.
+use Rattle.views.specs.Views.{tally_of}
+use Rattle.views.proofs.tally_of.Goals as goal
+
+pub returns : goal.returns
+unfolding tally_of
+returns c counts amounts masks good carried = rw c.load-union.ensures
