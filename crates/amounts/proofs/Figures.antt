@@ -18,7 +18,7 @@ use Rattle.amounts.specs.Amounts.{signed, units, cents, is_zero, same_number}
 
 -- what the machine reads of a number that fits
 pub read_is : (x : ℤ) → mag x < 9223372036854775808 → read_back x ≡ x
-read_is x h = to_z-of_z (record { sfits = h })
+read_is x h = to_z-of_z {w = w64} (record { sfits = h })
 
 -- ---- texts
 

@@ -1,13 +1,13 @@
 -- What every value of the type Board is: its arrays have their lengths, its words are below 2 ^ 64. The checker tells it of each parameter.
 -- Rests on Shapes. Assumes nothing.
 use Prim.Native.Nat.{ℕ, zero, suc, ◌<◌}
-use mathlib.Core.Path.{◌≡◌, sym, ◌∙◌}
-use mathlib.Core.List.{List, [], ◌∷◌, map}
+use mathlib.Core.Path.{◌≡◌}
+use mathlib.Core.List.{List, [], ◌∷◌}
 use native.Mathlib.Omega.{arith}
-use lib.ListN.{length, length-map, get_or, get_or-map}
+use lib.ListN.{length, get_or}
 use mir.Val.{Val}
 use denote.RattleType.{RattleType}
-use denote.Struct.Field.{Field, u8-field, u64-field}
+use denote.Builtin.{u8, u64}
 use denote.Shadow.{shadow}
 use denote.Array.{each, Array}
 use denote.Laws.{Is}
@@ -40,7 +40,7 @@ IsBoard b vs = Is board-type.the_row b vs
 -- ---- arrays
 
 -- each element of an array is of the elements' type
-each_at : (R : RattleType) (xs : List R.Denot) (us : List Val) → shadow (each R.Denot R.own xs us) → (i : ℕ) (d : R.Denot) → i < length xs
+each_at : (R : RattleType) (xs : List R.Denot) (us : List Val) → shadow (each R.Denot R.own_val xs us) → (i : ℕ) (d : R.Denot) → i < length xs
     → (u : Val) × Is R (get_or xs i d) (u ∷ [])
 each_at R [] us g i d h = absurd (omega arith)
 each_at R (x ∷ xs) [] g i d h = absurd g
@@ -48,21 +48,19 @@ each_at R (x ∷ xs) (u ∷ us) g zero d h = (u, g.0)
 each_at R (x ∷ xs) (u ∷ us) g (suc i) d h = each_at R xs us g.1 i d (omega arith)
 
 -- a field that is an array
-module _ (F : Field) (n : ℕ) (xs : List F.Value) (vs : List Val) (g : Is (Array F.row n) (map F.into xs) vs) where
+module _ (R : RattleType) (n : ℕ) (xs : List R.Denot) (vs : List Val) (g : Is (Array R n) xs vs) where
   array_long : length xs ≡ n
-  array_long = sym (length-map xs F.into) ∙ g.1.0.1
+  array_long = g.1.0.1
 
-  array_at : (i : ℕ) (d : F.Value) → i < n → (u : Val) × Is F.row (F.into (get_or xs i d)) (u ∷ [])
-  array_at i d h =
-      let k : i < length (map F.into xs) = omega (arith, g.1.0.1) in
-      rw (sym (get_or-map F.into xs i d)) (each_at F.row (map F.into xs) g.0 g.1.1 i (F.into d) k)
+  array_at : (i : ℕ) (d : R.Denot) → i < n → (u : Val) × Is R (get_or xs i d) (u ∷ [])
+  array_at i d h = each_at R xs g.0 g.1.1 i d (omega (arith, g.1.0.1))
 
 -- of words, and of bytes
-is_words : (n : ℕ) (ws : List ℕ) (vs : List Val) → Is (Array u64-field.row n) (map u64-field.into ws) vs → Words n ws
-is_words n ws vs g = record { long = array_long u64-field n ws vs g; small = λ i h. (array_at u64-field n ws vs g i 0 h).1.1 }
+is_words : (n : ℕ) (ws : List ℕ) (vs : List Val) → Is (Array u64 n) ws vs → Words n ws
+is_words n ws vs g = record { long = array_long u64 n ws vs g; small = λ i h. (array_at u64 n ws vs g i 0 h).1.1 }
 
-is_bytes : (n : ℕ) (ws : List ℕ) (vs : List Val) → Is (Array u8-field.row n) (map u8-field.into ws) vs → Bytes n ws
-is_bytes n ws vs g = record { long = array_long u8-field n ws vs g; small = λ i h. (array_at u8-field n ws vs g i 0 h).1.1 }
+is_bytes : (n : ℕ) (ws : List ℕ) (vs : List Val) → Is (Array u8 n) ws vs → Bytes n ws
+is_bytes n ws vs g = record { long = array_long u8 n ws vs g; small = λ i h. (array_at u8 n ws vs g i 0 h).1.1 }
 
 -- ---- structs
 
@@ -103,13 +101,13 @@ is_board b vs g =
     let ys = f.1.1.1.1.0 in
     let es = f.1.1.1.1.1.1.1.0 in
     record {
-      rows = array_long posting-type.the_field capacity b.table.rows _ f.1.1.0.1.1.1.0;
-      sites_long = array_long site-type.the_field sites b.sites _ ss;
-      tallies_long = array_long tally-type.the_field capacity b.tallies _ ys;
-      entries_long = array_long set-type.the_field capacity b.entries _ es;
-      each_site = λ p h. is_site (site_at b p) _ (array_at site-type.the_field sites b.sites _ ss p no_site h).1;
-      each_union = λ m h. is_union (tally_at b m) _ (array_at tally-type.the_field capacity b.tallies _ ys m no_tally h).1;
-      each_entry = λ m h. is_set (entry_at b m) _ (array_at set-type.the_field capacity b.entries _ es m no_set h).1;
+      rows = array_long posting-type.the_row capacity b.table.rows _ f.1.1.0.1.1.1.0;
+      sites_long = array_long site-type.the_row sites b.sites _ ss;
+      tallies_long = array_long tally-type.the_row capacity b.tallies _ ys;
+      entries_long = array_long set-type.the_row capacity b.entries _ es;
+      each_site = λ p h. is_site (site_at b p) _ (array_at site-type.the_row sites b.sites _ ss p no_site h).1;
+      each_union = λ m h. is_union (tally_at b m) _ (array_at tally-type.the_row capacity b.tallies _ ys m no_tally h).1;
+      each_entry = λ m h. is_set (entry_at b m) _ (array_at set-type.the_row capacity b.entries _ es m no_set h).1;
       flight = is_flight b.flight _ f.1.1.1.1.1.0;
       pool = is_set b.pool _ f.1.1.1.1.1.1.0;
       log = is_record b.log _ f.1.1.1.1.1.1.1.1.0;

@@ -22,12 +22,19 @@ loop-p-init c = tour_start c.requires
 
 pub offset_bounds-lines-from : goal.offset_bounds-lines-from
 offset_bounds-lines-from c =
-    let o = ordered (goal.at.offset_bounds-lines-from c).In-loop-p in
-    let i = inside (goal.at.offset_bounds-lines-from c).In-loop-p in
+    let at = (goal.at.offset_bounds-lines-from c).In-loop-p in
+    let o = ordered at in
+    let i = inside at in
     record { fits = omega (arith, o, i, c.requires.few) }
 
 pub slice_bounds-read_record-count : goal.slice_bounds-read_record-count
 slice_bounds-read_record-count c = ordered (goal.at.slice_bounds-read_record-count c).In-loop-p
+
+pub slice_bounds-read_record-start : goal.slice_bounds-read_record-start
+slice_bounds-read_record-start c = ordered (goal.at.slice_bounds-read_record-start c).In-loop-p
+
+pub slice_bounds-read_record-end : goal.slice_bounds-read_record-end
+slice_bounds-read_record-end c = inside (goal.at.slice_bounds-read_record-end c).In-loop-p
 
 pub read_record-read-requires : goal.read_record-read-requires
 read_record-read-requires c =

@@ -19,10 +19,9 @@ loop-i-init c = let v = c.args in
 known : (c : After-index-y) → let v = c.args in
     Known v.kinds.now v.firsts.now v.seconds.now v.places.now v.ahead.now c.index-y.result
 known c =
-    let b = c.before.before.before.before.before.before.before.before.before.before in
-    let v = b.args in
+    let v = c.args in
     subst (Known v.kinds.now v.firsts.now v.seconds.now v.places.now v.ahead.now) (sym c.index-y.ensures)
-    (b.requires.known c.loop-i.i c.loop-i-test.true)
+    (c.requires.known c.loop-i.i c.loop-i-test.true)
 
 pub bounds-kinds-y : goal.bounds-kinds-y
 bounds-kinds-y c = (known (goal.at.bounds-kinds-y c).After-index-y).in_kinds

@@ -24,13 +24,6 @@ no : (rows delivered : List ℕ) (out : List ℤ) → books_ok rows delivered ou
 unfolding books_out
 no rows delivered out = is_refused (books_ok rows delivered out) (numbers (books blank (table_of rows) delivered) ++ drop 64 out) out
 
--- the test of the record
-tested : (c : After-record_ok) → let args = c.args in
-    c.record_ok.result ≡ record_ok (record_of_bytes args.delivered.now) (row_count args.rows.now)
-tested c =
-    let args = c.args in
-    c.record_ok.ensures ∙ ap (λ (r : Record). record_ok r (row_count args.rows.now)) c.record_of-lines.ensures
-
 -- where all tests passed
 module _ (c : Then-record_ok) where
   abbrev rows : List ℕ
@@ -43,7 +36,7 @@ module _ (c : Then-record_ok) where
   table-passes = sym c.table_ok.ensures ∙ c.if-table_ok.true
 
   record-passes : record_ok (record_of_bytes delivered) (row_count rows) ≡ true
-  record-passes = sym (tested c.before) ∙ c.if-record_ok.true
+  record-passes = sym (c.record_ok.ensures ∙ ap (λ (r : Record). record_ok r (row_count rows)) c.record_of-lines.ensures) ∙ c.if-record_ok.true
 
   short : length delivered ≤ capacity
   unfolding record_of_bytes record_at
@@ -52,44 +45,36 @@ module _ (c : Then-record_ok) where
 pub returns-then-out-lt-FIGURES : goal.returns-then-out-lt-FIGURES
 unfolding books_ok
 returns-then-out-lt-FIGURES c =
-    let args = c.args in record { value = (no args.rows.now args.delivered.now args.out.now (rw (lt-leb 64 (length args.out.now) c.if-out-lt-FIGURES.true))).0; out_after = (no args.rows.now args.delivered.now args.out.now (rw (lt-leb 64 (length args.out.now) c.if-out-lt-FIGURES.true))).1 }
+    let args = c.args in let shown = no args.rows.now args.delivered.now args.out.now (rw (lt-leb 64 (length args.out.now) c.if-out-lt-FIGURES.true)) in record { value = shown.0; out_after = shown.1 }
 
 pub books-requires : goal.books-requires
 books-requires c =
+    let at = (goal.at.books-requires c).Then-record_ok in
     rw (c.table_of-table.ensures, c.record_of-lines.ensures, c.blank-opening.ensures)
-    (may_post (rows (goal.at.books-requires c).Then-record_ok) (table-passes (goal.at.books-requires c).Then-record_ok) (record_of_bytes (delivered (goal.at.books-requires c).Then-record_ok)) (record-passes (goal.at.books-requires c).Then-record_ok), blank_opening, search rules)
+    (may_post (rows at) (table-passes at) (record_of_bytes (delivered at)) (record-passes at), blank_opening, search rules)
 
 pub returns-then-record_ok : goal.returns-then-record_ok
 unfolding books_ok books_out
 returns-then-record_ok c =
-    let out = c.args.out.now in record { value = (is_done (books_ok (rows (goal.at.returns-then-record_ok c).Then-record_ok) (delivered (goal.at.returns-then-record_ok c).Then-record_ok) out) (numbers (books blank (table_of (rows (goal.at.returns-then-record_ok c).Then-record_ok)) (delivered (goal.at.returns-then-record_ok c).Then-record_ok)) ++ drop 64 out) out
-    (rw (le-leb 64 (length out) c.if-out-lt-FIGURES.false, table-passes (goal.at.returns-then-record_ok c).Then-record_ok, record-passes (goal.at.returns-then-record_ok c).Then-record_ok))
+    let at = (goal.at.returns-then-record_ok c).Then-record_ok in
+    let out = c.args.out.now in let shown = is_done (books_ok (rows at) (delivered at) out) (numbers (books blank (table_of (rows at)) (delivered at)) ++ drop 64 out) out
+    (rw (le-leb 64 (length out) c.if-out-lt-FIGURES.false, table-passes at, record-passes at))
     (c.books.ensures
     ∙ ap (λ (l : List ℤ). l ++ drop 64 out)
-    (books_read (rows (goal.at.returns-then-record_ok c).Then-record_ok) (delivered (goal.at.returns-then-record_ok c).Then-record_ok) c.table_of-table.ensures c.blank-opening.ensures c.record_of-lines.ensures (short (goal.at.returns-then-record_ok c).Then-record_ok)))).0; out_after = (is_done (books_ok (rows (goal.at.returns-then-record_ok c).Then-record_ok) (delivered (goal.at.returns-then-record_ok c).Then-record_ok) out) (numbers (books blank (table_of (rows (goal.at.returns-then-record_ok c).Then-record_ok)) (delivered (goal.at.returns-then-record_ok c).Then-record_ok)) ++ drop 64 out) out
-    (rw (le-leb 64 (length out) c.if-out-lt-FIGURES.false, table-passes (goal.at.returns-then-record_ok c).Then-record_ok, record-passes (goal.at.returns-then-record_ok c).Then-record_ok))
-    (c.books.ensures
-    ∙ ap (λ (l : List ℤ). l ++ drop 64 out)
-    (books_read (rows (goal.at.returns-then-record_ok c).Then-record_ok) (delivered (goal.at.returns-then-record_ok c).Then-record_ok) c.table_of-table.ensures c.blank-opening.ensures c.record_of-lines.ensures (short (goal.at.returns-then-record_ok c).Then-record_ok)))).1 }
+    (books_read (rows at) (delivered at) c.table_of-table.ensures c.blank-opening.ensures c.record_of-lines.ensures (short at))) in record { value = shown.0; out_after = shown.1 }
 
 pub returns-then-table_ok : goal.returns-then-table_ok
 unfolding books_ok
 returns-then-table_ok c =
-    let args = c.args in record { value = (no args.rows.now args.delivered.now args.out.now
+    let args = c.args in let shown = no args.rows.now args.delivered.now args.out.now
     (rw (
       le-leb 64 (length args.out.now) c.if-out-lt-FIGURES.false,
       sym c.table_ok.ensures ∙ c.if-table_ok.true,
-      sym (tested (goal.at.returns-then-table_ok c).After-record_ok) ∙ c.if-record_ok.false,
-    ))).0; out_after = (no args.rows.now args.delivered.now args.out.now
-    (rw (
-      le-leb 64 (length args.out.now) c.if-out-lt-FIGURES.false,
-      sym c.table_ok.ensures ∙ c.if-table_ok.true,
-      sym (tested (goal.at.returns-then-table_ok c).After-record_ok) ∙ c.if-record_ok.false,
-    ))).1 }
+      sym (c.record_ok.ensures ∙ ap (λ (r : Record). record_ok r (row_count c.args.rows.now)) c.record_of-lines.ensures) ∙ c.if-record_ok.false,
+    )) in record { value = shown.0; out_after = shown.1 }
 
 pub returns : goal.returns
 unfolding books_ok
 returns c =
-    let args = c.args in record { value = (no args.rows.now args.delivered.now args.out.now
-    (rw (le-leb 64 (length args.out.now) c.if-out-lt-FIGURES.false, sym c.table_ok.ensures ∙ c.if-table_ok.false))).0; out_after = (no args.rows.now args.delivered.now args.out.now
-    (rw (le-leb 64 (length args.out.now) c.if-out-lt-FIGURES.false, sym c.table_ok.ensures ∙ c.if-table_ok.false))).1 }
+    let args = c.args in let shown = no args.rows.now args.delivered.now args.out.now
+    (rw (le-leb 64 (length args.out.now) c.if-out-lt-FIGURES.false, sym c.table_ok.ensures ∙ c.if-table_ok.false)) in record { value = shown.0; out_after = shown.1 }

@@ -49,18 +49,23 @@ pub overflow_mul-account : goal.overflow_mul-account
 overflow_mul-account c = record { fits = omega (arith, account-within (goal.at.overflow_mul-account c).After-wide-account) }
 
 pub overflow_add-site : goal.overflow_add-site
-overflow_add-site c = record { fits = omega (arith, site_within (goal.at.overflow_add-site c).After-wide-account, account-within (goal.at.overflow_add-site c).After-wide-account) }
+overflow_add-site c =
+    let at = (goal.at.overflow_add-site c).After-wide-account in
+    record { fits = omega (arith, site_within at, account-within at) }
 
 pub copy_line-requires : goal.copy_line-requires
-copy_line-requires c = (omega (arith, site_within (goal.at.copy_line-requires c).After-wide-account, account-within (goal.at.copy_line-requires c).After-wide-account), omega arith)
+copy_line-requires c =
+    let at = (goal.at.copy_line-requires c).After-wide-account in
+    (omega (arith, site_within at, account-within at), omega arith)
 
 pub loop-i-preserved : goal.loop-i-preserved
 loop-i-preserved c =
+    let at = (goal.at.loop-i-preserved c).After-wide-account in
     (
-      omega (arith, here (goal.at.loop-i-preserved c).After-wide-account),
-      c.Copy-Line.auto.1.1.1.0 ∙ c.loop-i.invariant.1,
-      line_copied (figures (goal.at.loop-i-preserved c).After-wide-account) (pairs (goal.at.loop-i-preserved c).After-wide-account) c.requires.1 (within (goal.at.loop-i-preserved c).After-wide-account) (i (goal.at.loop-i-preserved c).After-wide-account) (here (goal.at.loop-i-preserved c).After-wide-account) _ _
-          c.wide-site.ensures c.wide-account.ensures c.args.out.now c.loop-i.out _ c.loop-i.invariant.2 c.Copy-Line.ensures,
+      omega (arith, here at),
+      c.copy_line.auto.out ∙ c.loop-i.invariant.1,
+      line_copied (figures at) (pairs at) c.requires.1 (within at) (i at) (here at) _ _
+          c.wide-site.ensures c.wide-account.ensures c.args.out.now c.loop-i.out _ c.loop-i.invariant.2 c.copy_line.ensures,
     )
 
 pub shape_of-out : goal.shape_of-out

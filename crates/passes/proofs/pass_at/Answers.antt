@@ -37,7 +37,7 @@ module _ (c : Start) where
 -- a line, once its row is read
 module _ (c : After-row_of-p) where
   abbrev start : Start
-  start = c.before.before.before.before.before.before.before
+  start = c
 
   abbrev i : ℕ
   i = c.loop-i.i
@@ -58,20 +58,19 @@ module _ (c : After-row_of-p) where
 -- a TRADE
 module _ (c : After-wide-a) where
   abbrev of-trade : After-row_of-p
-  of-trade = c.before.before.before
+  of-trade = c
 
   a-within : c.wide-a.result < accounts
   a-within = omega (arith, (trade_accounts (on_line of-trade) c.wide-a.result c.wide-a.ensures c.if-p-eq-TRADE.true).0, c.wide-a.ensures)
 
 b-within : (c : After-wide-b) → c.wide-b.result < accounts
 b-within c =
-    let at = c.before.before.before in
-    omega (arith, (trade_accounts (on_line (of-trade at)) at.wide-a.result at.wide-a.ensures at.if-p-eq-TRADE.true).1, c.wide-b.ensures)
+    omega (arith, (trade_accounts (on_line (of-trade c.before.before.before.before.before.before)) c.wide-a.result c.wide-a.ensures c.if-p-eq-TRADE.true).1, c.wide-b.ensures)
 
 -- a posting of one account
 module _ (c : After-wide-k) where
   abbrev of_one : After-row_of-p
-  of_one = c.before.before.before.before.before
+  of_one = c
 
   named : nets_all (posting of_one) ≡ false
   named = sym c.net_of_all.ensures ∙ c.if-net_of_all.false
@@ -84,15 +83,19 @@ unfolding books
 loop-i-init c = (search rules, c.blank-sheet.ensures, refl)
 
 pub overflow_add-from-in-loop-i : goal.overflow_add-from-in-loop-i
-overflow_add-from-in-loop-i c = record { fits = omega (arith, count_few (a (goal.at.overflow_add-from-in-loop-i c).Start) (site (goal.at.overflow_add-from-in-loop-i c).Start) (postable (goal.at.overflow_add-from-in-loop-i c).Start), c.loop-i-test.true, c.requires.0) }
+overflow_add-from-in-loop-i c =
+    let at = (goal.at.overflow_add-from-in-loop-i c).Start in
+    record { fits = omega (arith, count_few (a at) (site at) (postable at), c.loop-i-test.true, c.requires.0) }
 
 pub bounds-bytes-from : goal.bounds-bytes-from
 bounds-bytes-from c =
-    omega (arith, count_few (a (goal.at.bounds-bytes-from c).Start) (site (goal.at.bounds-bytes-from c).Start) (postable (goal.at.bounds-bytes-from c).Start), c.loop-i-test.true, c.requires.0)
+    let at = (goal.at.bounds-bytes-from c).Start in
+    omega (arith, count_few (a at) (site at) (postable at), c.loop-i-test.true, c.requires.0)
 
 pub row_of-p-requires : goal.row_of-p-requires
 row_of-p-requires c =
-    below (a (goal.at.row_of-p-requires c).Start) (site (goal.at.row_of-p-requires c).Start) (postable (goal.at.row_of-p-requires c).Start) c.loop-i.i (unfold record_in in c.loop-i-test.true) c.wide-m.result c.wide-m.ensures
+    let at = (goal.at.row_of-p-requires c).Start in
+    below (a at) (site at) (postable at) c.loop-i.i (unfold record_in in c.loop-i-test.true) c.wide-m.result c.wide-m.ensures
 
 pub offset_bounds-sheet-a : goal.offset_bounds-sheet-a
 offset_bounds-sheet-a c = record { fits = omega (arith, a-within (goal.at.offset_bounds-sheet-a c).After-wide-a) }
@@ -139,7 +142,8 @@ bounds-sheet-k c = k-within (goal.at.bounds-sheet-k c).After-wide-k
 
 pub change-t-requires : goal.change-t-requires
 change-t-requires c =
-    one_room (on_line (of_one (goal.at.change-t-requires (goal.at.change-t-requires c).After-wide-k).After-row_of-p)) c.wide-k.result c.wide-k.ensures c.if-p-eq-TRADE.false (named (goal.at.change-t-requires c).After-wide-k)
+    let at = (goal.at.change-t-requires c).After-wide-k in
+    one_room (on_line (of_one (goal.at.change-t-requires at).After-row_of-p)) c.wide-k.result c.wide-k.ensures c.if-p-eq-TRADE.false (named at)
 
 pub offset_bounds-sheet-k-else-net_of_all : goal.offset_bounds-sheet-k-else-net_of_all
 offset_bounds-sheet-k-else-net_of_all c = record { fits = omega (arith, k-within (goal.at.offset_bounds-sheet-k-else-net_of_all c).After-wide-k) }

@@ -22,29 +22,27 @@ long c = search rules
 
 -- the first k parts pass
 abbrev Left : Start → Set → ℕ → Type 0
-Left c all k = is_sound c.args.t1 ≡ all_of (drop k (parts_of c.args.t1 all))
+Left c all k = is_sound c.args.self ≡ all_of (drop k (parts_of c.args.self all))
 
 after-basis : (c : After-offered_set-all) → Left c.before.before.before.before.before c.offered_set-all.result 1
 unfolding all_of
 after-basis c =
-    let start = c.before.before.before.before.before in
-    sound_parts start.args.self _ c.offered_set-all.ensures (long start) ∙ rw (passed c.basis_ok.ensures c.if-basis_ok-eqfalse.false)
+    sound_parts c.args.self _ c.offered_set-all.ensures (long c.before.before.before.before.before) ∙ rw (passed c.basis_ok.ensures c.if-basis_ok-eqfalse.false)
 
-after-sites : (c : Else-sites_ok-eqfalse) → let all = c.before.before.before.before in Left all.before.before.before.before.before all.offered_set-all.result 2
+after-sites : (c : Else-sites_ok-eqfalse) → Left c.before.before.before.before.before.before.before.before.before c.offered_set-all.result 2
 unfolding all_of
 after-sites c = after-basis c.before.before.before.before ∙ rw (passed c.sites_ok.ensures c.if-sites_ok-eqfalse.false)
 
 after-tallies :
-    (c : Else-tallies_ok-eqfalse) → let all = c.before.before.before.before.before.before.before in Left all.before.before.before.before.before all.offered_set-all.result 3
+    (c : Else-tallies_ok-eqfalse) → Left c.before.before.before.before.before.before.before.before.before.before.before.before c.offered_set-all.result 3
 unfolding all_of
 after-tallies c = after-sites c.before.before.before ∙ rw (passed c.tallies_ok.ensures c.if-tallies_ok-eqfalse.false)
 
 after-cells :
     (c : Else-cells_ok-eqfalse)
-    → let all = c.before.before.before.before.before.before.before.before.before.before.before.before in
-    Left all.before.before.before.before.before all.offered_set-all.result 4
+    → Left c.before.before.before.before.before.before.before.before.before.before.before.before.before.before.before.before c.offered_set-all.result 4
 unfolding all_of
-after-cells c = after-tallies c.before.before.before.before.before ∙ rw (passed c.cells_ok.ensures c.if-cells_ok-eqfalse.false)
+after-cells c = after-tallies c.before.before.before.before ∙ rw (passed c.cells_ok.ensures c.if-cells_ok-eqfalse.false)
 
 pub returns-then-basis_ok-eqfalse : goal.returns-then-basis_ok-eqfalse
 unfolding all_of

@@ -6,4 +6,4 @@ use Rattle.printer.proofs.print.board_lines.Goals as goal
 
 pub returns : goal.returns
 unfolding board_lines
-returns c = then_put c.site_lines-p.ensures (then_put c.log_line-q.ensures c.Quiet-line.ensures)
+returns c = then_put c.site_lines-p.ensures (then_put c.log_line-q.ensures c.quiet_line.ensures)

@@ -4,8 +4,15 @@ use native.Mathlib.Nat.{sub-zero}
 use borrow.Author.Rules.{rules}
 use native.Mathlib.Omega.{arith}
 use Rattle.printer.proofs.Lengths.{longest_line}
-use Rattle.printer.proofs.Writing.{put_as, text_read}
+use Rattle.printer.proofs.Writing.{put_as, put_room, text_read}
 use Rattle.printer.proofs.print.event_line_from_array.Goals as goal
+
+pub slice_bounds-put_text-end : goal.slice_bounds-put_text-end
+slice_bounds-put_text-end c =
+    let made = c.event_line_in-end.ensures in
+    let args = c.args in
+    let short = longest_line args.k args.refusal (search rules) (search rules) in
+    omega (arith, put_room 0 made (omega (arith, short)))
 
 pub returns : goal.returns
 returns c =

@@ -7,8 +7,8 @@ use Rattle.printer.proofs.print.print_refused.Goals as goal
 
 pub returns-then-out-needed : goal.returns-then-out-needed
 returns-then-out-needed c =
-    let args = c.args in record { value = (too_short (refused_line args.refusal) args.out.now _ _ c.refused_line-needed.ensures c.if-out-needed.true).0; out_after = (too_short (refused_line args.refusal) args.out.now _ _ c.refused_line-needed.ensures c.if-out-needed.true).1; result_value = (too_short (refused_line args.refusal) args.out.now _ _ c.refused_line-needed.ensures c.if-out-needed.true).2 }
+    let args = c.args in let shown = too_short (refused_line args.refusal) args.out.now _ _ c.refused_line-needed.ensures c.if-out-needed.true in record { value = shown.0; out_after = shown.1.0; result_value = shown.1.1 }
 
 pub returns : goal.returns
 returns c =
-    let args = c.args in record { value = (written (refused_line args.refusal) args.out.now _ _ c.refused_line-needed.ensures _ _ (omega arith) c.if-out-needed.false c.refused_line-end.ensures).0; out_after = (written (refused_line args.refusal) args.out.now _ _ c.refused_line-needed.ensures _ _ (omega arith) c.if-out-needed.false c.refused_line-end.ensures).1; result_value = (written (refused_line args.refusal) args.out.now _ _ c.refused_line-needed.ensures _ _ (omega arith) c.if-out-needed.false c.refused_line-end.ensures).2 }
+    let args = c.args in let shown = written (refused_line args.refusal) args.out.now _ _ c.refused_line-needed.ensures _ _ (omega arith) c.if-out-needed.false c.refused_line-end.ensures in record { value = shown.0; out_after = shown.1.0; result_value = shown.1.1 }

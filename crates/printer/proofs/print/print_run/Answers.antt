@@ -26,12 +26,12 @@ returns-then-surely_fits c =
     let events = ltb-true (length refusals) most_events (and_left few fits sure) in
     let room = leb-true (longest_run (length refusals) ended.n) (length out) (and_right few fits sure) in
     let shown = is_shown refusals ended _ events (λ i. (c.shared_slice_known-1.given i).fits) c.well_formed.1.0 in
-    let long : length (printed_of refusals ended) ≤ length out = omega (arith, printed_length refusals ended shown, room) in record { value = (at_once (printed_of refusals ended) out _ _ (omega arith) long c.run_lines-end.ensures).0; out_after = (at_once (printed_of refusals ended) out _ _ (omega arith) long c.run_lines-end.ensures).1; result_value = (at_once (printed_of refusals ended) out _ _ (omega arith) long c.run_lines-end.ensures).2 }
+    let long : length (printed_of refusals ended) ≤ length out = omega (arith, printed_length refusals ended shown, room) in let shown = at_once (printed_of refusals ended) out _ _ (omega arith) long c.run_lines-end.ensures in record { value = shown.0; out_after = shown.1.0; result_value = shown.1.1 }
 
 pub returns-then-out-needed : goal.returns-then-out-needed
 returns-then-out-needed c =
-    let args = c.args in record { value = (too_short (printed_of args.refusals.now args.ended) args.out.now _ _ c.run_lines-needed.ensures c.if-out-needed.true).0; out_after = (too_short (printed_of args.refusals.now args.ended) args.out.now _ _ c.run_lines-needed.ensures c.if-out-needed.true).1; result_value = (too_short (printed_of args.refusals.now args.ended) args.out.now _ _ c.run_lines-needed.ensures c.if-out-needed.true).2 }
+    let args = c.args in let shown = too_short (printed_of args.refusals.now args.ended) args.out.now _ _ c.run_lines-needed.ensures c.if-out-needed.true in record { value = shown.0; out_after = shown.1.0; result_value = shown.1.1 }
 
 pub returns : goal.returns
 returns c =
-    let args = c.args in record { value = (written (printed_of args.refusals.now args.ended) args.out.now _ _ c.run_lines-needed.ensures _ _ (omega arith) c.if-out-needed.false c.run_lines-end-2.ensures).0; out_after = (written (printed_of args.refusals.now args.ended) args.out.now _ _ c.run_lines-needed.ensures _ _ (omega arith) c.if-out-needed.false c.run_lines-end-2.ensures).1; result_value = (written (printed_of args.refusals.now args.ended) args.out.now _ _ c.run_lines-needed.ensures _ _ (omega arith) c.if-out-needed.false c.run_lines-end-2.ensures).2 }
+    let args = c.args in let shown = written (printed_of args.refusals.now args.ended) args.out.now _ _ c.run_lines-needed.ensures _ _ (omega arith) c.if-out-needed.false c.run_lines-end-2.ensures in record { value = shown.0; out_after = shown.1.0; result_value = shown.1.1 }

@@ -1,0 +1,17 @@
+-- `sites_ok` meets its contract.
+-- Assumes nothing.
+use mathlib.Core.Path.{sym, ◌∙◌}
+use Rattle.by_bytes.specs.Bytes.{record_size, sites_ok}
+use Rattle.by_bytes.proofs.Reading.{parts_few}
+use Rattle.by_bytes.proofs.bytes.sites_ok.Goals as goal
+
+pub each_ok-requires : goal.each_ok-requires
+each_ok-requires c = parts_few _ record_size 7 (sym c.whole.ensures ∙ c.if-whole.true)
+
+pub returns-then-whole : goal.returns-then-whole
+unfolding sites_ok
+returns-then-whole c = rw (sym c.whole.ensures ∙ c.if-whole.true) c.each_ok.ensures
+
+pub returns : goal.returns
+unfolding sites_ok
+returns c = rw (sym c.whole.ensures ∙ c.if-whole.false)

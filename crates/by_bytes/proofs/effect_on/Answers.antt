@@ -1,0 +1,13 @@
+-- `effect_on` meets its contract.
+-- Assumes nothing.
+use mathlib.Core.Path.{sym, ◌∙◌}
+use Rattle.books.specs.Effect.{effect}
+use Rattle.by_bytes.proofs.effect_on.Goals as goal
+
+pub returns-then-touches : goal.returns-then-touches
+unfolding effect
+returns-then-touches c = rw (sym c.touches.ensures ∙ c.if-touches.true) c.change.ensures
+
+pub returns : goal.returns
+unfolding effect
+returns c = rw (sym c.touches.ensures ∙ c.if-touches.false)

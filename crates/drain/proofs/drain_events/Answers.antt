@@ -1,0 +1,166 @@
+-- The loops of `drain_events`: what each keeps, what the search left by its label needs, and that it finds the lowest message from the floor on.
+-- Rests on flight's laws of the search, on Offered and on Turn. Assumes nothing.
+use native.Mathlib.Omega.{arith}
+use borrow.Author.Rules.{rules}
+use Rattle.drain.proofs.Turn.{few_offered, at_start, few, fits, receive_turn, receive_spent, order_turn, order_spent, read_turn, read_spent, quiet}
+use Prim.Native.Nat.{ℕ, ◌-◌, ◌/◌, ◌%◌, ◌<◌}
+use mathlib.Core.Path.{◌≡◌, refl, sym, ◌∙◌}
+use mathlib.Core.Logic.{inl, inr}
+use mathlib.Core.List.{List}
+use borrow.Author.Tests.{eq-eqb, ne_eqb}
+use Rattle.sets.specs.Sets.{capacity}
+use Rattle.site.specs.Sites.{sites}
+use Rattle.flight.specs.declared.Found.{Found}
+use Rattle.flight.specs.declared.Found.TheVariants.{Nothing, Message}
+use Rattle.flight.specs.Flights.{cells}
+use Rattle.flight.proofs.SearchLaws.{site_hit, site_miss, site_end, cell_step, cell_end}
+use Rattle.drain.proofs.Offered.{in_cells, place_at, message_at_lem, next_cell, next_form, past_cells, past_forms}
+use Rattle.drain.proofs.Turn.{passes_on, Sought, sought_as}
+use Rattle.drain.proofs.drain_events.Goals as goal
+use Rattle.drain.proofs.drain_events.Goals.{After-lowest_pooled-first, After-up_mask-up, In-Message-2, In-loop-k, Left-search, else-search-test, then-search-test+then-loop-k-test+else-w-eq0+then-loop-to-test+then-has_site}
+
+-- the masks that the search looks at, and the sites that are up
+abbrev masks-at : After-up_mask-up → List ℕ
+masks-at c = c.loop-form.masks
+
+abbrev up_at : After-up_mask-up → ℕ
+up_at c = c.up_mask-up.result
+
+pub search-init : goal.search-init
+search-init c = (refl, refl, c.loop-form.invariant.stands)
+
+pub loop-k-init : goal.loop-k-init
+loop-k-init c = c.search.invariant
+
+-- a cell that is looked at is one of the flight's
+at-cell : (c : In-loop-k) → c.loop-k.k < cells
+at-cell c = in_cells _ _ _ _ c.loop-k.invariant.2 c.search-test.true c.loop-k-test.true
+
+pub bounds-masks-k : goal.bounds-masks-k
+bounds-masks-k c = at-cell (goal.at.bounds-masks-k c).In-loop-k
+
+pub loop-k-preserved-then-w-eq0 : goal.loop-k-preserved-then-w-eq0
+loop-k-preserved-then-w-eq0 c =
+    let at = c.loop-k in
+    (
+      at.invariant.0,
+      at.invariant.1 ∙ cell_step (masks-at (goal.at.loop-k-preserved-then-w-eq0 c).After-up_mask-up) (up_at (goal.at.loop-k-preserved-then-w-eq0 c).After-up_mask-up) at.k (at-cell (goal.at.loop-k-preserved-then-w-eq0 c).In-loop-k) ∙ rw (eq-eqb _ _ c.if-w-eq0.true),
+      next_cell _ _ _ _ at.invariant.2 c.search-test.true c.loop-k-test.true,
+    )
+
+pub loop-to-init : goal.loop-to-init
+loop-to-init c =
+    let at = c.loop-k in
+    (search rules, at.invariant.0, at.invariant.1 ∙ cell_step (masks-at (goal.at.loop-to-init c).After-up_mask-up) (up_at (goal.at.loop-to-init c).After-up_mask-up) at.k (at-cell (goal.at.loop-to-init c).In-loop-k) ∙ rw (ne_eqb _ _ c.if-w-eq0.false))
+
+pub loop-to-preserved : goal.loop-to-preserved
+loop-to-preserved c =
+    let at = c.loop-to in
+    (search rules, at.invariant.1, at.invariant.2 ∙ site_miss sites _ _ _ at.to c.loop-to-test.true (sym c.has_site.ensures ∙ c.if-has_site.false))
+
+pub loop-k-preserved : goal.loop-k-preserved
+loop-k-preserved c =
+    let at = c.loop-to in (
+      at.invariant.1,
+      at.invariant.2 ∙ site_end sites _ _ _ at.to c.loop-to-test.false,
+      next_cell _ _ _ _ c.loop-k.invariant.2 c.search-test.true c.loop-k-test.true,
+    )
+
+pub overflow_add-end : goal.overflow_add-end
+overflow_add-end c = omega (arith, c.search.invariant.2.to_end, c.search.invariant.2.few, c.search-test.true)
+
+pub search-preserved : goal.search-preserved
+search-preserved c =
+    let at = c.loop-k in
+    let form = c.search-test.true in
+    let on = passes_on _ _ _ _ _ _ _ _ c.loop-form.invariant (up_at (goal.at.search-preserved c).After-up_mask-up) _ at.k _ at.invariant.2 form c.loop-k-test.false in
+    (at.invariant.0, at.invariant.1 ∙ on, next_form _ _ _ _ at.invariant.2 form)
+
+-- what the search gives, left by its end or by its label
+sought :
+    (c : Left-search) (found : Found) → c.search-test.found ≡ found
+    → let at = c.loop-form in
+    Sought _ _ _ _ _ at.floor _ _ at.invariant _ c.up_mask-up.ensures c.search-test.start c.search.end found
+sought c found f =
+    let at = c.search in
+    let w = c.loop-form.invariant in
+    let up = c.up_mask-up.ensures in
+    elim c.search-test.branch [
+      | else-search-test e ↦ ?
+      | then-search-test+then-loop-k-test+else-w-eq0+then-loop-to-test+then-has_site e ↦ ?
+    ]
+
+-- it found a message, or none
+pub found-message :
+    (c : In-Message-2) → let at = c.loop-form in
+    let (form, (m, (from, (to, _)))) = c.found-1.given.0 in
+    Sought _ _ _ _ _ at.floor _ _ at.invariant _ c.up_mask-up.ensures c.search-test.start c.search.end (Message form m from to)
+found-message c = sought c.before.before _ c.in-Message.is
+
+pub found_nothing :
+    (c : After-lowest_pooled-first) → let at = c.loop-form in
+    Sought _ _ _ _ _ at.floor _ _ at.invariant _ c.up_mask-up.ensures c.search-test.start c.search.end Nothing
+found_nothing c = sought c.before.before.before _ c.enum_told-1.given.1
+
+pub overflow_mul-end : goal.overflow_mul-end
+overflow_mul-end c = omega (arith, few_offered _ _ c.requires.1)
+
+pub loop-form-init : goal.loop-form-init
+loop-form-init c = at_start _ _ _ c.requires.0 c.requires.1
+
+pub receive-why-requires : goal.receive-why-requires
+receive-why-requires c = few _ _ _ _ _ _ _ _ c.loop-form.invariant
+
+pub overflow_add-count : goal.overflow_add-count
+overflow_add-count c =
+    omega (arith, c.loop-form.invariant.going.within, c.if-count-limit.false, c.ranges.limit.fits)
+
+pub loop-form-smaller-in-Message : goal.loop-form-smaller-in-Message
+loop-form-smaller-in-Message c = omega (arith, c.loop-form.invariant.going.within, c.if-count-limit.false)
+
+pub loop-form-preserved-in-Message : goal.loop-form-preserved-in-Message
+loop-form-preserved-in-Message c =
+    receive_turn _ _ _ _ _ _ _ _ c.loop-form.invariant _ c.up_mask-up.ensures _ _ _ _ _ _ (found-message (goal.at.loop-form-preserved-in-Message c).In-Message-2)
+    c.if-count-limit.false _ _ (c.receive-why.ensures _) _ c.floor_after-floor.ensures
+
+pub overflow_add-count-then-first-lt-POSTINGS : goal.overflow_add-count-then-first-lt-POSTINGS
+overflow_add-count-then-first-lt-POSTINGS c =
+    omega (arith, c.loop-form.invariant.going.within, c.if-count-limit-2.false, c.ranges.limit.fits)
+
+pub loop-form-smaller-then-first-lt-POSTINGS : goal.loop-form-smaller-then-first-lt-POSTINGS
+loop-form-smaller-then-first-lt-POSTINGS c = omega (arith, c.loop-form.invariant.going.within, c.if-count-limit-2.false)
+
+pub loop-form-preserved-then-first-lt-POSTINGS : goal.loop-form-preserved-then-first-lt-POSTINGS
+loop-form-preserved-then-first-lt-POSTINGS c =
+    order_turn _ _ _ _ _ _ _ _ c.loop-form.invariant _ c.up_mask-up.ensures _ (found_nothing (goal.at.loop-form-preserved-then-first-lt-POSTINGS c).After-lowest_pooled-first) _ c.lowest_pooled-first.ensures
+    c.if-first-lt-POSTINGS.true c.if-count-limit-2.false _ _ (c.order-why.ensures _ _ _ _)
+
+pub next_reader-reader-requires : goal.next_reader-reader-requires
+next_reader-reader-requires c = few _ _ _ _ _ _ _ _ c.loop-form.invariant
+
+pub read-why-requires : goal.read-why-requires
+read-why-requires c = fits _ _ _ _ _ _ _ _ c.loop-form.invariant
+
+pub overflow_add-count-in-Nothing : goal.overflow_add-count-in-Nothing
+overflow_add-count-in-Nothing c =
+    omega (arith, c.loop-form.invariant.going.within, c.if-count-limit-3.false, c.ranges.limit.fits)
+
+pub loop-form-smaller : goal.loop-form-smaller
+loop-form-smaller c = omega (arith, c.loop-form.invariant.going.within, c.if-count-limit-3.false)
+
+pub loop-form-preserved : goal.loop-form-preserved
+loop-form-preserved c =
+    read_turn _ _ _ _ _ _ _ _ c.loop-form.invariant _ c.up_mask-up.ensures _ (found_nothing (goal.at.loop-form-preserved c).After-lowest_pooled-first) _ c.lowest_pooled-first.ensures
+    c.if-first-lt-POSTINGS.false _ c.next_reader-reader.ensures c.if-n-reader.false c.if-count-limit-3.false _ _ (c.read-why.ensures _ _ _ _)
+
+pub returns-then-count-limit : goal.returns-then-count-limit
+returns-then-count-limit c = let shown = receive_spent _ _ _ _ _ _ _ _ c.loop-form.invariant _ c.up_mask-up.ensures _ _ _ _ _ _ (found-message (goal.at.returns-then-count-limit c).In-Message-2) c.if-count-limit.true in record { carried_after = shown.0; count_value = shown.1.0; ending_value = shown.1.1.0; right = shown.1.1.1.0; ending_value_2 = shown.1.1.1.1 }
+
+pub returns-then-count-limit-2 : goal.returns-then-count-limit-2
+returns-then-count-limit-2 c = let shown = order_spent _ _ _ _ _ _ _ _ c.loop-form.invariant _ c.up_mask-up.ensures _ (found_nothing (goal.at.returns-then-count-limit-2 c).After-lowest_pooled-first) _ c.lowest_pooled-first.ensures c.if-first-lt-POSTINGS.true c.if-count-limit-2.true in record { carried_after = shown.0; count_value = shown.1.0; ending_value = shown.1.1.0; right = shown.1.1.1.0; ending_value_2 = shown.1.1.1.1 }
+
+pub returns-then-n-reader : goal.returns-then-n-reader
+returns-then-n-reader c = let shown = quiet _ _ _ _ _ _ _ _ c.loop-form.invariant _ c.up_mask-up.ensures _ (found_nothing (goal.at.returns-then-n-reader c).After-lowest_pooled-first) _ c.lowest_pooled-first.ensures c.if-first-lt-POSTINGS.false _ c.next_reader-reader.ensures c.if-n-reader.true in record { carried_after = shown.0; count_value = shown.1.0; ending_value = shown.1.1.0; right = shown.1.1.1.0; ending_value_2 = shown.1.1.1.1 }
+
+pub returns-then-count-limit-3 : goal.returns-then-count-limit-3
+returns-then-count-limit-3 c = let shown = read_spent _ _ _ _ _ _ _ _ c.loop-form.invariant _ c.up_mask-up.ensures _ (found_nothing (goal.at.returns-then-count-limit-3 c).After-lowest_pooled-first) _ c.lowest_pooled-first.ensures c.if-first-lt-POSTINGS.false _ c.next_reader-reader.ensures c.if-n-reader.false c.if-count-limit-3.true in record { carried_after = shown.0; count_value = shown.1.0; ending_value = shown.1.1.0; right = shown.1.1.1.0; ending_value_2 = shown.1.1.1.1 }

@@ -1,0 +1,7 @@
+-- `word_of` meets its contract.
+-- Assumes nothing.
+use native.Mathlib.Omega.{arith}
+use Rattle.image.proofs.numbers.word_of.Goals as goal
+
+pub returns : goal.returns
+returns c = omega (arith, c.shared_slice_known-1.given c.args.at)

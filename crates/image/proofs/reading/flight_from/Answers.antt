@@ -1,0 +1,8 @@
+-- `flight_from` meets its contract.
+-- Assumes nothing.
+use Rattle.image.specs.Image.{flight_from}
+use Rattle.image.proofs.reading.flight_from.Goals as goal
+
+pub returns : goal.returns
+unfolding flight_from
+returns c = rw (c.carried_from-carried.ensures, c.good_from-good.ensures, c.masks_from-masks.ensures)

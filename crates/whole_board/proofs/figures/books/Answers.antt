@@ -1,0 +1,12 @@
+-- `books` meets its contract.
+-- Assumes nothing.
+use mathlib.Core.Path.{refl, sym, ◌∙◌}
+use Rattle.machine.specs.Figures.{shown, showing}
+use Rattle.whole_board.proofs.figures.books.Goals as goal
+
+pub books_sound-requires : goal.books_sound-requires
+books_sound-requires c = sym c.is_sound.ensures ∙ c.if-is_sound.true
+
+pub returns : goal.returns
+unfolding showing shown
+returns c = record { value = rw (sym c.is_sound.ensures ∙ c.if-is_sound.false) refl; out_after = rw (sym c.is_sound.ensures ∙ c.if-is_sound.false) refl; result_value = rw (sym c.is_sound.ensures ∙ c.if-is_sound.false) refl }

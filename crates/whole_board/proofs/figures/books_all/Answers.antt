@@ -1,0 +1,12 @@
+-- `books_all` meets its contract.
+-- Assumes nothing.
+use mathlib.Core.Path.{refl, sym, ◌∙◌}
+use Rattle.machine.specs.Figures.{shown, showing_all}
+use Rattle.whole_board.proofs.figures.books_all.Goals as goal
+
+pub books_all_sound-requires : goal.books_all_sound-requires
+books_all_sound-requires c = sym c.is_sound.ensures ∙ c.if-is_sound.true
+
+pub returns : goal.returns
+unfolding showing_all shown
+returns c = record { value = rw (sym c.is_sound.ensures ∙ c.if-is_sound.false) refl; out_after = rw (sym c.is_sound.ensures ∙ c.if-is_sound.false) refl; result_value = rw (sym c.is_sound.ensures ∙ c.if-is_sound.false) refl }

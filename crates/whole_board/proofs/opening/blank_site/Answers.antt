@@ -1,0 +1,7 @@
+-- `blank_site` meets its contract.
+-- Assumes nothing.
+use Rattle.whole_board.proofs.opening.blank_site.Goals as goal
+
+pub returns : goal.returns
+returns c =
+    rw (c.empty-delivered.ensures, c.empty-none.ensures)
