@@ -19,13 +19,6 @@ use Rattle.drain.proofs.Turn.{passes_on, Sought, sought_as}
 use Rattle.drain.proofs.drain_events.Goals as goal
 use Rattle.drain.proofs.drain_events.Goals.{After-lowest_pooled-first, After-up_mask-up, In-Message-2, In-loop-k, Left-search, else-search-test, then-search-test+then-loop-k-test+else-w-eq0+then-loop-to-test+then-has_site}
 
--- the masks that the search looks at, and the sites that are up
-abbrev masks-at : After-up_mask-up → List ℕ
-masks-at c = c.loop-form.masks
-
-abbrev up_at : After-up_mask-up → ℕ
-up_at c = c.up_mask-up.result
-
 pub search-init : goal.search-init
 search-init c = (refl, refl, c.loop-form.invariant.stands)
 
@@ -44,14 +37,14 @@ loop-k-preserved-then-w-eq0 c =
     let at = c.loop-k in
     (
       at.invariant.0,
-      at.invariant.1 ∙ cell_step (masks-at (goal.at.loop-k-preserved-then-w-eq0 c).After-up_mask-up) (up_at (goal.at.loop-k-preserved-then-w-eq0 c).After-up_mask-up) at.k (at-cell (goal.at.loop-k-preserved-then-w-eq0 c).In-loop-k) ∙ rw (eq-eqb _ _ c.if-w-eq0.true),
+      at.invariant.1 ∙ cell_step c.loop-form.masks c.up_mask-up.result at.k (at-cell (goal.at.loop-k-preserved-then-w-eq0 c).In-loop-k) ∙ rw (eq-eqb _ _ c.if-w-eq0.true),
       next_cell _ _ _ _ at.invariant.2 c.search-test.true c.loop-k-test.true,
     )
 
 pub loop-to-init : goal.loop-to-init
 loop-to-init c =
     let at = c.loop-k in
-    (search rules, at.invariant.0, at.invariant.1 ∙ cell_step (masks-at (goal.at.loop-to-init c).After-up_mask-up) (up_at (goal.at.loop-to-init c).After-up_mask-up) at.k (at-cell (goal.at.loop-to-init c).In-loop-k) ∙ rw (ne_eqb _ _ c.if-w-eq0.false))
+    (search rules, at.invariant.0, at.invariant.1 ∙ cell_step c.loop-form.masks c.up_mask-up.result at.k (at-cell (goal.at.loop-to-init c).In-loop-k) ∙ rw (ne_eqb _ _ c.if-w-eq0.false))
 
 pub loop-to-preserved : goal.loop-to-preserved
 loop-to-preserved c =
@@ -73,7 +66,7 @@ pub search-preserved : goal.search-preserved
 search-preserved c =
     let at = c.loop-k in
     let form = c.search-test.true in
-    let on = passes_on _ _ _ _ _ _ _ _ c.loop-form.invariant (up_at (goal.at.search-preserved c).After-up_mask-up) _ at.k _ at.invariant.2 form c.loop-k-test.false in
+    let on = passes_on _ _ _ _ _ _ _ _ c.loop-form.invariant c.up_mask-up.result _ at.k _ at.invariant.2 form c.loop-k-test.false in
     (at.invariant.0, at.invariant.1 ∙ on, next_form _ _ _ _ at.invariant.2 form)
 
 -- what the search gives, left by its end or by its label
@@ -86,21 +79,17 @@ sought c found f =
     let w = c.loop-form.invariant in
     let up = c.up_mask-up.ensures in
     elim c.search-test.branch [
-      | else-search-test e ↦ ?
-      | then-search-test+then-loop-k-test+else-w-eq0+then-loop-to-test+then-has_site e ↦ ?
+      | else-search-test e ↦
+          let none = sym (at.invariant.1 ∙ cell_end c.loop-form.masks c.up_mask-up.result at.start (past_cells _ _ _ _ at.invariant.2 e.search-test.false)) in
+          sought_as _ _ _ _ _ _ _ _ w _ up at.start at.end Nothing (none, past_forms _ _ _ _ at.invariant.2 e.search-test.false) _ found e.start-is (sym f ∙ e.found-is ∙ at.invariant.0)
+      | then-search-test+then-loop-k-test+else-w-eq0+then-loop-to-test+then-has_site e ↦
+          let k = e.loop-k.k in
+          let to = e.loop-to.to in
+          let hit = e.loop-to.invariant.2 ∙ site_hit sites _ _ _ to e.loop-to-test.true (sym e.has_site.ensures ∙ e.if-has_site.true) in
+          let is = message_at_lem _ at.form k _ e.loop-k.invariant.2 e.search-test.true e.loop-k-test.true to ∙ sym hit in
+          sought_as _ _ _ _ _ _ _ _ w _ up k at.end (Message at.form (k / sites % capacity) (k % sites) to)
+          (is, (place_at _ _ _ _ e.loop-k.invariant.2 e.search-test.true e.loop-k-test.true, e.loop-k.invariant.2)) _ found e.start-is (sym f ∙ e.found-is)
     ]
-
--- it found a message, or none
-pub found-message :
-    (c : In-Message-2) → let at = c.loop-form in
-    let (form, (m, (from, (to, _)))) = c.found-1.given.0 in
-    Sought _ _ _ _ _ at.floor _ _ at.invariant _ c.up_mask-up.ensures c.search-test.start c.search.end (Message form m from to)
-found-message c = sought c.before.before _ c.in-Message.is
-
-pub found_nothing :
-    (c : After-lowest_pooled-first) → let at = c.loop-form in
-    Sought _ _ _ _ _ at.floor _ _ at.invariant _ c.up_mask-up.ensures c.search-test.start c.search.end Nothing
-found_nothing c = sought c.before.before.before _ c.enum_told-1.given.1
 
 pub overflow_mul-end : goal.overflow_mul-end
 overflow_mul-end c = omega (arith, few_offered _ _ c.requires.1)
@@ -120,7 +109,7 @@ loop-form-smaller-in-Message c = omega (arith, c.loop-form.invariant.going.withi
 
 pub loop-form-preserved-in-Message : goal.loop-form-preserved-in-Message
 loop-form-preserved-in-Message c =
-    receive_turn _ _ _ _ _ _ _ _ c.loop-form.invariant _ c.up_mask-up.ensures _ _ _ _ _ _ (found-message (goal.at.loop-form-preserved-in-Message c).In-Message-2)
+    receive_turn _ _ _ _ _ _ _ _ c.loop-form.invariant _ c.up_mask-up.ensures _ _ _ _ _ _ (sought (goal.at.loop-form-preserved-in-Message c).Left-search _ c.in-Message.is)
     c.if-count-limit.false _ _ (c.receive-why.ensures _) _ c.floor_after-floor.ensures
 
 pub overflow_add-count-then-first-lt-POSTINGS : goal.overflow_add-count-then-first-lt-POSTINGS
@@ -132,7 +121,7 @@ loop-form-smaller-then-first-lt-POSTINGS c = omega (arith, c.loop-form.invariant
 
 pub loop-form-preserved-then-first-lt-POSTINGS : goal.loop-form-preserved-then-first-lt-POSTINGS
 loop-form-preserved-then-first-lt-POSTINGS c =
-    order_turn _ _ _ _ _ _ _ _ c.loop-form.invariant _ c.up_mask-up.ensures _ (found_nothing (goal.at.loop-form-preserved-then-first-lt-POSTINGS c).After-lowest_pooled-first) _ c.lowest_pooled-first.ensures
+    order_turn _ _ _ _ _ _ _ _ c.loop-form.invariant _ c.up_mask-up.ensures _ (sought (goal.at.loop-form-preserved-then-first-lt-POSTINGS c).Left-search _ c.in-Nothing.is) _ c.lowest_pooled-first.ensures
     c.if-first-lt-POSTINGS.true c.if-count-limit-2.false _ _ (c.order-why.ensures _ _ _ _)
 
 pub next_reader-reader-requires : goal.next_reader-reader-requires
@@ -150,17 +139,17 @@ loop-form-smaller c = omega (arith, c.loop-form.invariant.going.within, c.if-cou
 
 pub loop-form-preserved : goal.loop-form-preserved
 loop-form-preserved c =
-    read_turn _ _ _ _ _ _ _ _ c.loop-form.invariant _ c.up_mask-up.ensures _ (found_nothing (goal.at.loop-form-preserved c).After-lowest_pooled-first) _ c.lowest_pooled-first.ensures
+    read_turn _ _ _ _ _ _ _ _ c.loop-form.invariant _ c.up_mask-up.ensures _ (sought (goal.at.loop-form-preserved c).Left-search _ c.in-Nothing.is) _ c.lowest_pooled-first.ensures
     c.if-first-lt-POSTINGS.false _ c.next_reader-reader.ensures c.if-n-reader.false c.if-count-limit-3.false _ _ (c.read-why.ensures _ _ _ _)
 
 pub returns-then-count-limit : goal.returns-then-count-limit
-returns-then-count-limit c = let shown = receive_spent _ _ _ _ _ _ _ _ c.loop-form.invariant _ c.up_mask-up.ensures _ _ _ _ _ _ (found-message (goal.at.returns-then-count-limit c).In-Message-2) c.if-count-limit.true in record { carried_after = shown.0; count_value = shown.1.0; ending_value = shown.1.1.0; right = shown.1.1.1.0; ending_value_2 = shown.1.1.1.1 }
+returns-then-count-limit c = let shown = receive_spent _ _ _ _ _ _ _ _ c.loop-form.invariant _ c.up_mask-up.ensures _ _ _ _ _ _ (sought (goal.at.returns-then-count-limit c).Left-search _ c.in-Message.is) c.if-count-limit.true in record { carried_after = shown.0; count_value = shown.1.0; ending_value = shown.1.1.0; right = shown.1.1.1.0; ending_value_2 = shown.1.1.1.1 }
 
 pub returns-then-count-limit-2 : goal.returns-then-count-limit-2
-returns-then-count-limit-2 c = let shown = order_spent _ _ _ _ _ _ _ _ c.loop-form.invariant _ c.up_mask-up.ensures _ (found_nothing (goal.at.returns-then-count-limit-2 c).After-lowest_pooled-first) _ c.lowest_pooled-first.ensures c.if-first-lt-POSTINGS.true c.if-count-limit-2.true in record { carried_after = shown.0; count_value = shown.1.0; ending_value = shown.1.1.0; right = shown.1.1.1.0; ending_value_2 = shown.1.1.1.1 }
+returns-then-count-limit-2 c = let shown = order_spent _ _ _ _ _ _ _ _ c.loop-form.invariant _ c.up_mask-up.ensures _ (sought (goal.at.returns-then-count-limit-2 c).Left-search _ c.in-Nothing.is) _ c.lowest_pooled-first.ensures c.if-first-lt-POSTINGS.true c.if-count-limit-2.true in record { carried_after = shown.0; count_value = shown.1.0; ending_value = shown.1.1.0; right = shown.1.1.1.0; ending_value_2 = shown.1.1.1.1 }
 
 pub returns-then-n-reader : goal.returns-then-n-reader
-returns-then-n-reader c = let shown = quiet _ _ _ _ _ _ _ _ c.loop-form.invariant _ c.up_mask-up.ensures _ (found_nothing (goal.at.returns-then-n-reader c).After-lowest_pooled-first) _ c.lowest_pooled-first.ensures c.if-first-lt-POSTINGS.false _ c.next_reader-reader.ensures c.if-n-reader.true in record { carried_after = shown.0; count_value = shown.1.0; ending_value = shown.1.1.0; right = shown.1.1.1.0; ending_value_2 = shown.1.1.1.1 }
+returns-then-n-reader c = let shown = quiet _ _ _ _ _ _ _ _ c.loop-form.invariant _ c.up_mask-up.ensures _ (sought (goal.at.returns-then-n-reader c).Left-search _ c.in-Nothing.is) _ c.lowest_pooled-first.ensures c.if-first-lt-POSTINGS.false _ c.next_reader-reader.ensures c.if-n-reader.true in record { carried_after = shown.0; count_value = shown.1.0; ending_value = shown.1.1.0; right = shown.1.1.1.0; ending_value_2 = shown.1.1.1.1 }
 
 pub returns-then-count-limit-3 : goal.returns-then-count-limit-3
-returns-then-count-limit-3 c = let shown = read_spent _ _ _ _ _ _ _ _ c.loop-form.invariant _ c.up_mask-up.ensures _ (found_nothing (goal.at.returns-then-count-limit-3 c).After-lowest_pooled-first) _ c.lowest_pooled-first.ensures c.if-first-lt-POSTINGS.false _ c.next_reader-reader.ensures c.if-n-reader.false c.if-count-limit-3.true in record { carried_after = shown.0; count_value = shown.1.0; ending_value = shown.1.1.0; right = shown.1.1.1.0; ending_value_2 = shown.1.1.1.1 }
+returns-then-count-limit-3 c = let shown = read_spent _ _ _ _ _ _ _ _ c.loop-form.invariant _ c.up_mask-up.ensures _ (sought (goal.at.returns-then-count-limit-3 c).Left-search _ c.in-Nothing.is) _ c.lowest_pooled-first.ensures c.if-first-lt-POSTINGS.false _ c.next_reader-reader.ensures c.if-n-reader.false c.if-count-limit-3.true in record { carried_after = shown.0; count_value = shown.1.0; ending_value = shown.1.1.0; right = shown.1.1.1.0; ending_value_2 = shown.1.1.1.1 }
