@@ -1,6 +1,7 @@
 // What `audit` prints for each set of arguments, of which `+` ends one: the repository's examples, stored as cases.
 // Rests on audit_program.
 #![tactic(auto)]
+
 ghost use Rattle.std.specs.Prelude.{◌≤◌, ◌<◌};
 
 use std::rt::{Env, Files};

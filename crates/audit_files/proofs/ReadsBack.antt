@@ -84,6 +84,10 @@ entries_last most line p =
 
 -- ---- files
 
+end_some : (e : Ending) → 1 ≤ length (end_of e)
+end_some unix = omega arith
+end_some dos = omega arith
+
 module _ (end : Ending) where
   -- with at least as many lines allowed as there are
   lines_back : (most : ℕ) (l : List Entry) → length l ≤ most → AllSayable l → entries_of most (lines_of end l) ≡ l
@@ -105,7 +109,7 @@ module _ (end : Ending) where
 
   -- a file has at least as many bytes as lines
   end_long : 1 ≤ length (end_of end)
-  end_long = elim end [ unix ↦ omega arith | dos ↦ omega arith ]
+  end_long = end_some end
 
   lines_long : (l : List Entry) → length l ≤ length (lines_of end l)
   unfolding lines_of

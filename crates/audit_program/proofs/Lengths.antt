@@ -1,13 +1,11 @@
--- Lengths: of a record's lines, of slices that keep theirs, and of arrays.
+-- Lengths: of a record's lines, and of arrays.
 -- Rests on audit_files. Assumes nothing.
-use Prim.Native.Nat.{ℕ, suc, ◌≤◌}
-use mathlib.Core.Path.{◌≡◌, refl, sym, ap, ◌∙◌}
-use mathlib.Core.List.{List, [], ◌∷◌}
-use native.Mathlib.Omega.{arith}
-use lib.ListN.{length, take, length-take, replicate, length-replicate}
+use Rattle.std.proofs.Common.{ℕ, suc, ◌≤◌, ◌≡◌, refl, sym, ap, List, [], ◌∷◌, length, arith}
+use Rattle.std.proofs.Math.ListN.{take, replicate}
+use Rattle.std.proofs.lemmas.List.{length-replicate}
+use lib.ListN.{length-take}
 use Rattle.audit_files.specs.declared.Entry.{Entry}
 use Rattle.audit_files.specs.Files.{numbers_of, most_lines, record_lines}
-use Rattle.audit_files.specs.Room.{Room}
 
 numbers_long : (l : List Entry) → length (numbers_of l) ≡ length l
 unfolding numbers_of
@@ -21,16 +19,6 @@ record_few l =
     let e : length (numbers_of (take most_lines l)) ≡ length (take most_lines l) = numbers_long (take most_lines l) in
     let m = length-take most_lines l in
     omega (arith, e, m)
-
--- Slices that keep their lengths keep their room.
-pub room_stays : {k f s a w k' f' s' a' w' : List ℕ} → Room k f s a w → length k' ≡ length k → length f' ≡ length f → length s' ≡ length s → length a' ≡ length a → length w' ≡ length w → Room k' f' s' a' w'
-room_stays r k f s a w = record {
-  kinds_all = k ∙ r.kinds_all;
-  firsts_all = f ∙ r.firsts_all;
-  seconds_all = s ∙ r.seconds_all;
-  amounts_all = a ∙ r.amounts_all;
-  wheres_all = w ∙ r.wheres_all;
-}
 
 -- Bounds over equal numbers, stated by themselves: where arrays are in reach, `omega` would write their cells out.
 pub within : {i m n : ℕ} → i ≤ m → n ≡ m → i ≤ n

@@ -1,6 +1,7 @@
 // Programs `board` and `statement` over a reader: a run file is read, and what they print is written to standard output.
 // Rests on runfile and statements for all of the work, on std for reading and writing, of which no contract can say more.
 #![tactic(auto)]
+
 ghost use Rattle.std.specs.Prelude.{◌≤◌, length, IfOk};
 
 use printer::Printed;

@@ -8,6 +8,7 @@ use lib.ListN.{get_or}
 use borrow.Author.Tests.{eq-eqb, ne_eqb}
 use Rattle.audit_lacks.proofs.Marks.{only, count_start, count_most, count_yes, count_no, count_end}
 use Rattle.audit_lacks.proofs.count_lacked.Goals as goal
+use Rattle.audit_lacks.proofs.count_lacked.Goals.{then-marks-x-eq-ONLY_OTHERS, else-marks-x-eq-ONLY_OTHERS}
 
 pub loop-x-init : goal.loop-x-init
 loop-x-init c = (omega arith, count_start (only c.args.marks.now))
@@ -23,10 +24,10 @@ loop-x-preserved c =
     let marks = c.args.marks.now in
     let l = c.loop-x in (
       omega (arith, c.loop-x-test.true),
-      ⊎_elim
-          (λ w. w.1 ∙ count_yes (only marks) l.many l.x l.invariant.1 (eq-eqb (get_or marks l.x 0) 1 w.0.taken))
-          (λ w. w.1 ∙ count_no (only marks) l.many l.x l.invariant.1 (ne_eqb (get_or marks l.x 0) 1 w.0.left))
-          c.if-marks-x-eq-ONLY_OTHERS.branch,
+      elim c.if-marks-x-eq-ONLY_OTHERS.branch [
+        | then-marks-x-eq-ONLY_OTHERS w ↦ w.many-is ∙ count_yes (only marks) l.many l.x l.invariant.1 (eq-eqb (get_or marks l.x 0) 1 w.if-marks-x-eq-ONLY_OTHERS.true)
+        | else-marks-x-eq-ONLY_OTHERS w ↦ w.many-is ∙ count_no (only marks) l.many l.x l.invariant.1 (ne_eqb (get_or marks l.x 0) 1 w.if-marks-x-eq-ONLY_OTHERS.false)
+      ],
     )
 
 pub returns : goal.returns

@@ -9,6 +9,7 @@ use lib.ListN.{length}
 use Rattle.sets.proofs.Truth.{failed, passed}
 use Rattle.audit_lacks.proofs.Marks.{used, count_start, count_most, count_yes, count_no, count_end}
 use Rattle.audit_lacks.proofs.count_postings.Goals as goal
+use Rattle.audit_lacks.proofs.count_postings.Goals.{then-free-eqfalse, else-free-eqfalse}
 
 pub loop-x-init : goal.loop-x-init
 loop-x-init c = (omega arith, count_start (used c.args.kinds.now))
@@ -25,10 +26,10 @@ loop-x-preserved c =
     let l = c.loop-x in
     let e = c.unused-free.ensures in (
       omega (arith, c.loop-x-test.true),
-      ⊎_elim
-          (λ w. w.1 ∙ count_yes (used kinds) l.postings l.x l.invariant.1 (ap not (failed e w.0.taken)))
-          (λ w. w.1 ∙ count_no (used kinds) l.postings l.x l.invariant.1 (ap not (passed e w.0.left)))
-          c.if-free-eqfalse.branch,
+      elim c.if-free-eqfalse.branch [
+        | then-free-eqfalse w ↦ w.postings-is ∙ count_yes (used kinds) l.postings l.x l.invariant.1 (ap not (failed e w.if-free-eqfalse.true))
+        | else-free-eqfalse w ↦ w.postings-is ∙ count_no (used kinds) l.postings l.x l.invariant.1 (ap not (passed e w.if-free-eqfalse.false))
+      ],
     )
 
 pub returns : goal.returns

@@ -51,15 +51,15 @@ returns-then-fits-eqfalse c =
     let read = c.read_record-read in
     λ t rows. (
       λ u. absurd (true≢false (sym u)),
-      λ u. tour_breaks c.requires c.loop-p.invariant c.loop-p-test.true refl read.ensures.1 (failed refl c.if-fits-eqfalse.true) t rows,
+      λ u. tour_breaks c.requires c.loop-p.invariant c.loop-p-test.true refl read.ensures.read_says (failed refl c.if-fits-eqfalse.true) t rows,
     )
 
 pub loop-p-preserved : goal.loop-p-preserved
 loop-p-preserved c =
     let read = c.read_record-read in
     let fits = passed refl c.if-fits-eqfalse.false in
-    tour_next c.requires c.loop-p.invariant c.loop-p-test.true refl read.ensures.1 fits
-    read.auto.1.1.1.1.1.1.1.0 read.auto.1.1.1.1.1.1.1.1.0 (read.ensures.0 fits)
+    tour_next c.requires c.loop-p.invariant c.loop-p-test.true refl read.ensures.read_says fits
+    read.auto.places read.auto.ahead (read.ensures.seen_bound fits)
 
 pub shape_of-places : goal.shape_of-places
 shape_of-places c = c.loop-p.invariant.same_places

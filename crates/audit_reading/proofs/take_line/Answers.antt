@@ -29,7 +29,7 @@ returns-then-a-b c =
     let k = c.wide-k.ensures in
     let named = c.if-a-eq-EVERY_ROW.false in
     let first = rw (c.wide.ensures, k) at c.take_class.ensures in
-    let second = rw (c.wide-2.ensures, k, first.0, first.1) at c.take_class-2.ensures in record { counts_after = second.0 ∙ line_two c.args.counts.now (λ v. v + 1) c.args.kind c.requires.0 c.args.a named c.args.b c.if-a-b.true; highest_after = second.1 ∙ line_two c.args.highest.now (λ n. max n c.args.place) c.args.kind c.requires.0 c.args.a named c.args.b c.if-a-b.true }
+    let second = rw (c.wide-2.ensures, k, first.counts_after, first.highest_after) at c.take_class-2.ensures in record { counts_after = second.counts_after ∙ line_two c.args.counts.now (λ v. v + 1) c.args.kind c.requires.0 c.args.a named c.args.b c.if-a-b.true; highest_after = second.highest_after ∙ line_two c.args.highest.now (λ n. max n c.args.place) c.args.kind c.requires.0 c.args.a named c.args.b c.if-a-b.true }
 
 pub take_class-requires-3 : goal.take_class-requires-3
 take_class-requires-3 c =
@@ -46,5 +46,5 @@ returns c =
     let k = c.wide-k.ensures in
     let named = c.if-a-eq-EVERY_ROW.false in
     let first = rw (c.wide.ensures, k) at c.take_class.ensures in
-    let second = rw (c.wide-2.ensures, k, first.0, first.1) at c.take_class-2.ensures in
-    let third = rw (c.wide-3.ensures, k, second.0, second.1) at c.take_class-3.ensures in record { counts_after = third.0 ∙ line_three c.args.counts.now (λ v. v + 1) c.args.kind c.requires.0 c.args.a named c.args.b c.if-a-b.false (λ e. named (c.requires.3 e)); highest_after = third.1 ∙ line_three c.args.highest.now (λ n. max n c.args.place) c.args.kind c.requires.0 c.args.a named c.args.b c.if-a-b.false (λ e. named (c.requires.3 e)) }
+    let second = rw (c.wide-2.ensures, k, first.counts_after, first.highest_after) at c.take_class-2.ensures in
+    let third = rw (c.wide-3.ensures, k, second.counts_after, second.highest_after) at c.take_class-3.ensures in record { counts_after = third.counts_after ∙ line_three c.args.counts.now (λ v. v + 1) c.args.kind c.requires.0 c.args.a named c.args.b c.if-a-b.false (λ e. named (c.requires.3 e)); highest_after = third.highest_after ∙ line_three c.args.highest.now (λ n. max n c.args.place) c.args.kind c.requires.0 c.args.a named c.args.b c.if-a-b.false (λ e. named (c.requires.3 e)) }

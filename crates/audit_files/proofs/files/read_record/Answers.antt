@@ -42,7 +42,4 @@ pub returns : goal.returns
 returns c =
     let v = c.args in
     let so_far = c.loop-at.invariant in
-    let ended = c.loop-at-test.false in let shown = (
-      reading_refused (store v.kinds.now v.firsts.now v.seconds.now v.amounts.now v.wheres.now) v.file v.text.now v.lines.now v.from so_far ended,
-      (reading_count (store v.kinds.now v.firsts.now v.seconds.now v.amounts.now v.wheres.now) v.file v.text.now v.lines.now v.from so_far ended, reading_lines (store v.kinds.now v.firsts.now v.seconds.now v.amounts.now v.wheres.now) v.file v.text.now v.lines.now v.from so_far ended c.requires.1),
-    ) in record { refused_value = shown.0; count_value = shown.1.0; lines_after = shown.1.1 }
+    let ended = c.loop-at-test.false in record { refused_value = reading_refused (store v.kinds.now v.firsts.now v.seconds.now v.amounts.now v.wheres.now) v.file v.text.now v.lines.now v.from so_far ended; count_value = reading_count (store v.kinds.now v.firsts.now v.seconds.now v.amounts.now v.wheres.now) v.file v.text.now v.lines.now v.from so_far ended; lines_after = reading_lines (store v.kinds.now v.firsts.now v.seconds.now v.amounts.now v.wheres.now) v.file v.text.now v.lines.now v.from so_far ended c.requires.1 }

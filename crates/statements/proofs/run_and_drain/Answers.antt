@@ -1,0 +1,92 @@
+-- `run_and_drain` meets its contract.
+-- Assumes nothing.
+use Prim.Native.Nat.{ℕ}
+use mathlib.Core.Path.{◌≡◌, ap, ◌∙◌}
+use mathlib.Core.List.{List}
+use mathlib.Core.Bool.{true}
+use native.Mathlib.Omega.{arith}
+use lib.ListN.{replicate, length-replicate}
+use Rattle.site.specs.declared.Setup.{Setup}
+use Rattle.steps.specs.declared.Call.{Call}
+use Rattle.arrays.specs.Arrays.{Arrays, arrays}
+use Rattle.machine.specs.Boards.{fresh_board}
+use Rattle.machine.specs.Calls.{refusal_of}
+use Rattle.machine.specs.Soundness.{is_sound}
+use Rattle.machine.specs.Runs.{running}
+use Rattle.machine.specs.View.{view}
+use Rattle.invariants.proofs.Reached.{run_good}
+use Rattle.machine.proofs.Fresh.{fresh_shown, fresh_right}
+use Rattle.machine.proofs.Gives.{few_sites}
+use Rattle.whole_board.proofs.Showing.{may_post_at}
+use Rattle.decoder.specs.RunFile.{calls_of}
+use Rattle.runfile.specs.Program.{StaysSound}
+use Rattle.runfile.proofs.Runs.{fresh_run}
+use Rattle.statements.proofs.Stated.{settled_sound, settled_view, settled_count, settled_down, settled_setup, settled_books}
+use Rattle.statements.proofs.run_and_drain.Goals as goal
+use Rattle.statements.proofs.run_and_drain.Goals.{After-drain_events-done, After-run_events}
+
+pub run_events-requires : goal.run_events-requires
+run_events-requires c =
+    let g = c.args in
+    let p = c.requires in
+    (fresh_right, rw (fresh_shown g.setup) p.0, omega arith, omega (arith, c.event_count-events.ensures, p.2, length-replicate {A = ℕ} 4096 0))
+
+
+
+-- ---- what the run has left, and the drain after it
+abbrev setup : After-run_events → Setup
+setup c = c.args.setup
+
+abbrev calls : After-run_events → List Call
+calls c = calls_of c.args.input.now
+
+abbrev after_run : After-run_events → Arrays
+after_run c =
+    let l = c.run_events.new in
+    arrays l.words l.counts l.bytes l.amounts l.masks l.good l.carried
+
+run : (c : After-run_events) → view (setup c) (after_run c) ≡ running (fresh_board (setup c)) (calls c)
+run c = fresh_run (setup c) c.args.input.now (replicate 4096 0) c.event_count-events.result c.event_count-events.ensures (after_run c) c.run_events.new.numbers c.run_events.ensures.carried_after
+
+abbrev limit : After-drain_events-done → ℕ
+limit c = c.args.limit
+
+abbrev left : After-drain_events-done → Arrays
+left c =
+    let l = c.drain_events-done.new in
+    arrays l.words l.counts l.bytes l.amounts l.masks l.good l.carried
+
+stays : (c : After-drain_events-done) → StaysSound (fresh_board (setup c.before.before.before.before.before.before.before.before.before))
+stays c = c.requires.0
+
+sound : (c : After-drain_events-done) → is_sound (view (setup c.before.before.before.before.before.before.before.before.before) (left c)) ≡ true
+sound c =
+    rw (settled_view (setup c.before.before.before.before.before.before.before.before.before) (calls c.before.before.before.before.before.before.before.before.before) (limit c) (stays c) (after_run c.before.before.before.before.before.before.before.before.before) (left c) (run c.before.before.before.before.before.before.before.before.before) c.drain_events-done.ensures.carried_after) (settled_sound (setup c.before.before.before.before.before.before.before.before.before) (calls c.before.before.before.before.before.before.before.before.before) (limit c) (stays c))
+
+pub drain_events-done-requires : goal.drain_events-done-requires
+drain_events-done-requires c =
+    let at = (goal.at.drain_events-done-requires c).After-run_events in
+    (c.run_events.ensures.right, rw (run at) (run_good (fresh_board (setup at)) (calls at) c.requires.1))
+
+pub books_all_at-answer-requires : goal.books_all_at-answer-requires
+books_all_at-answer-requires c =
+    let at = (goal.at.books_all_at-answer-requires c).After-drain_events-done in
+    let few = few_sites (setup (goal.at.books_all_at-answer-requires c).After-run_events) (left at) c.drain_events-done.ensures.right (sound at) in
+    (few, may_post_at (setup (goal.at.books_all_at-answer-requires c).After-run_events) (left at) c.drain_events-done.ensures.right.masks_long (sound at) few)
+
+pub returns : goal.returns
+returns c =
+    let at = (goal.at.returns c).After-drain_events-done in
+    let s = setup (goal.at.returns c).After-run_events in
+    let l = calls (goal.at.returns c).After-run_events in
+    let a = after_run (goal.at.returns c).After-run_events in
+    let d = left at in
+    let r = run (goal.at.returns c).After-run_events in
+    let done = c.drain_events-done.ensures in
+    let books = settled_books s l (limit at) (stays at) a d r done.carried_after _ c.args.out.now _ (c.books_all_at-answer.ensures d.sets d.masks d.good d.carried) in let shown = (
+      settled_count s l (limit at) (stays at) a d r done.carried_after _ done.count_value,
+      (
+        settled_down s l (limit at) (stays at) a d r done.carried_after,
+        (c.refusal_of-why.ensures ∙ ap refusal_of books.0, (settled_setup s l (limit at) (stays at) a d r done.carried_after, books.1)),
+      ),
+    ) in record { count_value = shown.0; down_value = shown.1.0; why_value = shown.1.1.0; limit_value = shown.1.1.1.0; out_after = shown.1.1.1.1 }
