@@ -1,2 +1,3 @@
 // Each refusal with its neighbours in the order, evaluated on the definitions; there is no function.
 // Rests on cases.
+#![tactic(auto)]

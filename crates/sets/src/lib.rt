@@ -1,5 +1,7 @@
 // Sets of posting numbers, in 64-bit words.
 // Rests on nothing.
+#![tactic(auto)]
+
 ghost use Rattle.std.specs.Prelude.{◌/◌, ◌%◌, ◌^◌, ◌≡◌, cond, eqb};
 ghost use Rattle.std.specs.Int.Bits.{bit_or};
 ghost use Rattle.sets.specs.Sets.{empty_set, has, with, with_if, join, meet, subset, is_empty_set};

@@ -1,7 +1,7 @@
 -- `audit_books::posted_lines` meets its contract: after i lines the sheet is that of the first i lines.
 -- Rests on Sheets. Assumes nothing.
 use mathlib.Core.Path.{◌≡◌, sym, ap, ◌∙◌}
-use mathlib.Core.Logic.{⊎_elim}
+use mathlib.Core.Bool.{false}
 use mathlib.Core.List.{List}
 use Prim.Native.Nat.{ℕ, ◌+◌, ◌<◌, ◌-◌}
 use native.Mathlib.Omega.{arith}
@@ -9,7 +9,7 @@ use lib.ListN.{length, get_or, take}
 use lib.Seq.{take_all}
 use borrow.Author.Rules.{rules}
 use Rattle.posting.specs.declared.Posting.{Posting}
-use Rattle.posting.specs.Kinds.{accounts}
+use Rattle.posting.specs.Kinds.{accounts, nets_all}
 use Rattle.books.specs.Books.{Books, blank, books, sheet_of}
 use Rattle.books.specs.declared.Sheet.{Sheet}
 use Rattle.books.proofs.Sheets.{Line, Named, line, line_accounts, line_roomy, line_nets_all, room_a, room_b}
@@ -17,7 +17,7 @@ use Rattle.audit_rule.specs.Handed.{posting_at, table_of}
 use Rattle.audit_books.specs.Lines.{Postable}
 use Rattle.audit_books.proofs.Sheets.{line_of}
 use Rattle.audit_books.proofs.posted_lines.Goals as goal
-use Rattle.audit_books.proofs.posted_lines.Goals.{After-wide-a, After-wide-b, In-loop-i}
+use Rattle.audit_books.proofs.posted_lines.Goals.{In-loop-i, then-net_of_all, else-net_of_all}
 
 -- line i
 module _ (c : In-loop-i) where
@@ -67,22 +67,15 @@ module _ (c : In-loop-i) where
   on_line = line_of kinds firsts seconds amounts lines postable i here sheet c.loop-i.invariant.1
 
 -- a line that names its accounts
-module _ (c : After-wide-a) where
-  abbrev in-loop : In-loop-i
-  in-loop = c
+module _ (c : In-loop-i) (named : nets_all (posting c) ≡ false) (a : ℕ) (first : a ≡ (posting c).a) where
+  named_line : Named (books_to c (i c)) (posting c) (books_to c (i c + 1)) (sheet c) a
+  named_line = record { on = on_line c; named = named; first = first }
 
-  start : Named (books_to in-loop (i in-loop)) (posting in-loop) (books_to in-loop (i in-loop + 1)) (sheet in-loop) c.wide-a.result
-  start = record {
-    on = on_line in-loop;
-    named = sym c.net_of_all.ensures ∙ c.if-net_of_all.false;
-    first = c.wide-a.ensures;
-  }
+  a_within : a < accounts
+  a_within = omega (arith, (line_accounts named_line).0, first)
 
-  a-within : c.wide-a.result < accounts
-  a-within = omega (arith, (line_accounts start).0, c.wide-a.ensures)
-
-b-within : (c : After-wide-b) → c.wide-b.result < accounts
-b-within c = let both = line_accounts (start c.before.before.before) in omega (arith, both.0, both.1, c.wide-b.ensures)
+  b_within : (b : ℕ) → b ≡ (posting c).b → b < accounts
+  b_within b e = let both = line_accounts named_line in omega (arith, both.0, both.1, e)
 
 pub loop-i-init : goal.loop-i-init
 unfolding books
@@ -119,49 +112,50 @@ pub net_all-sheet-requires : goal.net_all-sheet-requires
 net_all-sheet-requires c = line_roomy (on_line (goal.at.net_all-sheet-requires c).In-loop-i)
 
 pub offset_bounds-sheet-a : goal.offset_bounds-sheet-a
-offset_bounds-sheet-a c = record { fits = omega (arith, a-within (goal.at.offset_bounds-sheet-a c).After-wide-a) }
+offset_bounds-sheet-a c = record { fits = omega (arith, a_within (goal.at.offset_bounds-sheet-a c).In-loop-i (sym c.net_of_all.ensures ∙ c.if-net_of_all.false) c.wide-a.result c.wide-a.ensures) }
 
 pub bounds-sheet-a : goal.bounds-sheet-a
-bounds-sheet-a c = a-within (goal.at.bounds-sheet-a c).After-wide-a
+bounds-sheet-a c = a_within (goal.at.bounds-sheet-a c).In-loop-i (sym c.net_of_all.ensures ∙ c.if-net_of_all.false) c.wide-a.result c.wide-a.ensures
 
 pub change-t-requires : goal.change-t-requires
-change-t-requires c = room_a (start (goal.at.change-t-requires c).After-wide-a)
+change-t-requires c = room_a (named_line (goal.at.change-t-requires c).In-loop-i (sym c.net_of_all.ensures ∙ c.if-net_of_all.false) c.wide-a.result c.wide-a.ensures)
 
 pub offset_bounds-sheet-a-else-net_of_all : goal.offset_bounds-sheet-a-else-net_of_all
-offset_bounds-sheet-a-else-net_of_all c = record { fits = omega (arith, a-within (goal.at.offset_bounds-sheet-a-else-net_of_all c).After-wide-a) }
+offset_bounds-sheet-a-else-net_of_all c = record { fits = omega (arith, a_within (goal.at.offset_bounds-sheet-a-else-net_of_all c).In-loop-i (sym c.net_of_all.ensures ∙ c.if-net_of_all.false) c.wide-a.result c.wide-a.ensures) }
 
 pub bounds-sheet-a-else-net_of_all : goal.bounds-sheet-a-else-net_of_all
-bounds-sheet-a-else-net_of_all c = a-within (goal.at.bounds-sheet-a-else-net_of_all c).After-wide-a
+bounds-sheet-a-else-net_of_all c = a_within (goal.at.bounds-sheet-a-else-net_of_all c).In-loop-i (sym c.net_of_all.ensures ∙ c.if-net_of_all.false) c.wide-a.result c.wide-a.ensures
 
 pub offset_bounds-sheet-b : goal.offset_bounds-sheet-b
-offset_bounds-sheet-b c = record { fits = omega (arith, b-within (goal.at.offset_bounds-sheet-b c).After-wide-b) }
+offset_bounds-sheet-b c = record { fits = omega (arith, b_within (goal.at.offset_bounds-sheet-b c).In-loop-i (sym c.net_of_all.ensures ∙ c.if-net_of_all.false) c.wide-a.result c.wide-a.ensures c.wide-b.result c.wide-b.ensures) }
 
 pub bounds-sheet-b : goal.bounds-sheet-b
-bounds-sheet-b c = b-within (goal.at.bounds-sheet-b c).After-wide-b
+bounds-sheet-b c = b_within (goal.at.bounds-sheet-b c).In-loop-i (sym c.net_of_all.ensures ∙ c.if-net_of_all.false) c.wide-a.result c.wide-a.ensures c.wide-b.result c.wide-b.ensures
 
 pub change_b-v-requires : goal.change_b-v-requires
 change_b-v-requires c =
     let a = c.change-t in
     let b = c.wide-b in
-    room_b (start (goal.at.change_b-v-requires c).After-wide-a) a.result b.result a.ensures b.ensures
+    room_b (named_line (goal.at.change_b-v-requires c).In-loop-i (sym c.net_of_all.ensures ∙ c.if-net_of_all.false) c.wide-a.result c.wide-a.ensures) a.result b.result a.ensures b.ensures
 
 pub offset_bounds-sheet-b-else-net_of_all : goal.offset_bounds-sheet-b-else-net_of_all
-offset_bounds-sheet-b-else-net_of_all c = record { fits = omega (arith, b-within (goal.at.offset_bounds-sheet-b-else-net_of_all c).After-wide-b) }
+offset_bounds-sheet-b-else-net_of_all c = record { fits = omega (arith, b_within (goal.at.offset_bounds-sheet-b-else-net_of_all c).In-loop-i (sym c.net_of_all.ensures ∙ c.if-net_of_all.false) c.wide-a.result c.wide-a.ensures c.wide-b.result c.wide-b.ensures) }
 
 pub bounds-sheet-b-else-net_of_all : goal.bounds-sheet-b-else-net_of_all
-bounds-sheet-b-else-net_of_all c = b-within (goal.at.bounds-sheet-b-else-net_of_all c).After-wide-b
+bounds-sheet-b-else-net_of_all c = b_within (goal.at.bounds-sheet-b-else-net_of_all c).In-loop-i (sym c.net_of_all.ensures ∙ c.if-net_of_all.false) c.wide-a.result c.wide-a.ensures c.wide-b.result c.wide-b.ensures
 
 pub loop-i-preserved : goal.loop-i-preserved
 loop-i-preserved c =
     let at = (goal.at.loop-i-preserved c).In-loop-i in
     (
       omega (arith, here at),
-      ⊎_elim
-          (λ w. w.2 ∙ w.1.ensures ∙ line_nets_all (on_line at) (sym c.net_of_all.ensures ∙ w.0.taken))
-          (λ w.
-          let begun : After-wide-a = record { before = record { before = c; if-net_of_all = w.0 }; wide-a = w.1 } in
-          w.7 ∙ line (start begun) w.3.result w.4.result w.3.ensures w.4.ensures w.6.result w.6.ensures)
-          c.if-net_of_all.branch,
+      elim c.if-net_of_all.branch [
+        | then-net_of_all w ↦ w.sheet-is ∙ w.net_all-sheet.ensures ∙ line_nets_all (on_line at) (sym c.net_of_all.ensures ∙ w.if-net_of_all.true)
+        | else-net_of_all w ↦
+            w.sheet-is
+            ∙ line (named_line at (sym c.net_of_all.ensures ∙ w.if-net_of_all.false) w.wide-a.result w.wide-a.ensures)
+            w.change-t.result w.wide-b.result w.change-t.ensures w.wide-b.ensures w.change_b-v.result w.change_b-v.ensures
+      ],
     )
 
 pub returns : goal.returns

@@ -1,7 +1,6 @@
 -- `pass_at` meets its contract: after i lines the sheet is that of the first i posting numbers, and i places were visited.
 -- Assumes nothing.
 use mathlib.Core.Path.{◌≡◌, refl, sym, ap, ◌∙◌}
-use mathlib.Core.Logic.{⊎_elim}
 use mathlib.Core.Bool.{false}
 use mathlib.Core.List.{[]}
 use Prim.Native.Nat.{ℕ, ◌+◌, ◌<◌, ◌-◌}
@@ -18,10 +17,7 @@ use Rattle.arrays.specs.Arrays.{Arrays, arrays}
 use Rattle.views.specs.Views.{record_in, table_of}
 use Rattle.passes.proofs.RecordLines.{books_to, count_few, places_are, below, line_here, trade_accounts, trade_room_a, trade_room_b, trade_line, one_account, one_room, one_line}
 use Rattle.passes.proofs.pass_at.Goals as goal
-use Rattle.passes.proofs.pass_at.Goals.{After-row_of-p, After-wide-a, After-wide-b, After-wide-k, Start}
-
-abbrev Start : Type 0
-Start = Start
+use Rattle.passes.proofs.pass_at.Goals.{After-row_of-p, Start, then-p-eq-TRADE, else-p-eq-TRADE+then-net_of_all, else-p-eq-TRADE+else-net_of_all}
 
 -- the board at work, and that its record may be posted
 module _ (c : Start) where
@@ -36,8 +32,14 @@ module _ (c : Start) where
 
 -- a line, once its row is read
 module _ (c : After-row_of-p) where
-  abbrev start : Start
-  start = c
+  abbrev line_a : Arrays
+  line_a = arrays [] c.args.counts.now c.args.bytes.now c.args.amounts.now [] [] []
+
+  abbrev line_site : ℕ
+  line_site = c.args.site
+
+  abbrev line_postable : Postable (table_of line_a) (record_in line_a line_site)
+  line_postable = c.requires.1
 
   abbrev i : ℕ
   i = c.loop-i.i
@@ -48,35 +50,12 @@ module _ (c : After-row_of-p) where
   abbrev posting : Posting
   posting = c.row_of-p.result
 
-  here : i < (record_in (a start) (site start)).count
+  here : i < (record_in line_a line_site).count
   unfolding record_in
   here = c.loop-i-test.true
 
-  on_line : Line (books_to (a start) (site start) (postable start) i) posting (books_to (a start) (site start) (postable start) (i + 1)) sheet
-  on_line = line_here (a start) (site start) (postable start) i here c.wide-m.result c.wide-m.ensures posting (c.row_of-p.ensures [] start.args.counts.now [] [] []) sheet c.loop-i.invariant.1
-
--- a TRADE
-module _ (c : After-wide-a) where
-  abbrev of-trade : After-row_of-p
-  of-trade = c
-
-  a-within : c.wide-a.result < accounts
-  a-within = omega (arith, (trade_accounts (on_line of-trade) c.wide-a.result c.wide-a.ensures c.if-p-eq-TRADE.true).0, c.wide-a.ensures)
-
-b-within : (c : After-wide-b) → c.wide-b.result < accounts
-b-within c =
-    omega (arith, (trade_accounts (on_line (of-trade c.before.before.before.before.before.before)) c.wide-a.result c.wide-a.ensures c.if-p-eq-TRADE.true).1, c.wide-b.ensures)
-
--- a posting of one account
-module _ (c : After-wide-k) where
-  abbrev of_one : After-row_of-p
-  of_one = c
-
-  named : nets_all (posting of_one) ≡ false
-  named = sym c.net_of_all.ensures ∙ c.if-net_of_all.false
-
-  k-within : c.wide-k.result < accounts
-  k-within = omega (arith, one_account (on_line of_one) c.wide-k.result c.wide-k.ensures c.if-p-eq-TRADE.false named, c.wide-k.ensures)
+  on_line : Line (books_to line_a line_site line_postable i) posting (books_to line_a line_site line_postable (i + 1)) sheet
+  on_line = line_here line_a line_site line_postable i here c.wide-m.result c.wide-m.ensures posting (c.row_of-p.ensures [] c.args.counts.now [] [] []) sheet c.loop-i.invariant.1
 
 pub loop-i-init : goal.loop-i-init
 unfolding books
@@ -98,80 +77,83 @@ row_of-p-requires c =
     below (a at) (site at) (postable at) c.loop-i.i (unfold record_in in c.loop-i-test.true) c.wide-m.result c.wide-m.ensures
 
 pub offset_bounds-sheet-a : goal.offset_bounds-sheet-a
-offset_bounds-sheet-a c = record { fits = omega (arith, a-within (goal.at.offset_bounds-sheet-a c).After-wide-a) }
+offset_bounds-sheet-a c = record { fits = omega (arith, (trade_accounts (on_line (goal.at.offset_bounds-sheet-a c).After-row_of-p) c.wide-a.result c.wide-a.ensures c.if-p-eq-TRADE.true).0, c.wide-a.ensures) }
 
 pub bounds-sheet-a : goal.bounds-sheet-a
-bounds-sheet-a c = a-within (goal.at.bounds-sheet-a c).After-wide-a
+bounds-sheet-a c = omega (arith, (trade_accounts (on_line (goal.at.bounds-sheet-a c).After-row_of-p) c.wide-a.result c.wide-a.ensures c.if-p-eq-TRADE.true).0, c.wide-a.ensures)
 
 pub trade-t-requires : goal.trade-t-requires
 trade-t-requires c =
-    trade_room_a (on_line (of-trade (goal.at.trade-t-requires (goal.at.trade-t-requires c).After-wide-a).After-row_of-p)) c.wide-a.result c.wide-a.ensures c.if-p-eq-TRADE.true
+    trade_room_a (on_line (goal.at.trade-t-requires c).After-row_of-p) c.wide-a.result c.wide-a.ensures c.if-p-eq-TRADE.true
 
 pub offset_bounds-sheet-a-then-p-eq-TRADE : goal.offset_bounds-sheet-a-then-p-eq-TRADE
-offset_bounds-sheet-a-then-p-eq-TRADE c = record { fits = omega (arith, a-within (goal.at.offset_bounds-sheet-a-then-p-eq-TRADE c).After-wide-a) }
+offset_bounds-sheet-a-then-p-eq-TRADE c = record { fits = omega (arith, (trade_accounts (on_line (goal.at.offset_bounds-sheet-a-then-p-eq-TRADE c).After-row_of-p) c.wide-a.result c.wide-a.ensures c.if-p-eq-TRADE.true).0, c.wide-a.ensures) }
 
 pub bounds-sheet-a-then-p-eq-TRADE : goal.bounds-sheet-a-then-p-eq-TRADE
-bounds-sheet-a-then-p-eq-TRADE c = a-within (goal.at.bounds-sheet-a-then-p-eq-TRADE c).After-wide-a
+bounds-sheet-a-then-p-eq-TRADE c = omega (arith, (trade_accounts (on_line (goal.at.bounds-sheet-a-then-p-eq-TRADE c).After-row_of-p) c.wide-a.result c.wide-a.ensures c.if-p-eq-TRADE.true).0, c.wide-a.ensures)
 
 pub offset_bounds-sheet-b : goal.offset_bounds-sheet-b
-offset_bounds-sheet-b c = record { fits = omega (arith, b-within (goal.at.offset_bounds-sheet-b c).After-wide-b) }
+offset_bounds-sheet-b c = record { fits = omega (arith, (trade_accounts (on_line (goal.at.offset_bounds-sheet-b c).After-row_of-p) c.wide-a.result c.wide-a.ensures c.if-p-eq-TRADE.true).1, c.wide-b.ensures) }
 
 pub bounds-sheet-b : goal.bounds-sheet-b
-bounds-sheet-b c = b-within (goal.at.bounds-sheet-b c).After-wide-b
+bounds-sheet-b c = omega (arith, (trade_accounts (on_line (goal.at.bounds-sheet-b c).After-row_of-p) c.wide-a.result c.wide-a.ensures c.if-p-eq-TRADE.true).1, c.wide-b.ensures)
 
 pub trade-v-requires : goal.trade-v-requires
 trade-v-requires c =
     let t = c.trade-t in
     let b = c.wide-b in
-    trade_room_b (on_line (of-trade (goal.at.trade-v-requires (goal.at.trade-v-requires c).After-wide-a).After-row_of-p)) c.wide-a.result c.wide-a.ensures c.if-p-eq-TRADE.true t.result b.result t.ensures b.ensures
+    trade_room_b (on_line (goal.at.trade-v-requires c).After-row_of-p) c.wide-a.result c.wide-a.ensures c.if-p-eq-TRADE.true t.result b.result t.ensures b.ensures
 
 pub offset_bounds-sheet-b-then-p-eq-TRADE : goal.offset_bounds-sheet-b-then-p-eq-TRADE
-offset_bounds-sheet-b-then-p-eq-TRADE c = record { fits = omega (arith, b-within (goal.at.offset_bounds-sheet-b-then-p-eq-TRADE c).After-wide-b) }
+offset_bounds-sheet-b-then-p-eq-TRADE c = record { fits = omega (arith, (trade_accounts (on_line (goal.at.offset_bounds-sheet-b-then-p-eq-TRADE c).After-row_of-p) c.wide-a.result c.wide-a.ensures c.if-p-eq-TRADE.true).1, c.wide-b.ensures) }
 
 pub bounds-sheet-b-then-p-eq-TRADE : goal.bounds-sheet-b-then-p-eq-TRADE
-bounds-sheet-b-then-p-eq-TRADE c = b-within (goal.at.bounds-sheet-b-then-p-eq-TRADE c).After-wide-b
+bounds-sheet-b-then-p-eq-TRADE c = omega (arith, (trade_accounts (on_line (goal.at.bounds-sheet-b-then-p-eq-TRADE c).After-row_of-p) c.wide-a.result c.wide-a.ensures c.if-p-eq-TRADE.true).1, c.wide-b.ensures)
 
 pub net_all-sheet-requires : goal.net_all-sheet-requires
 net_all-sheet-requires c = line_roomy (on_line (goal.at.net_all-sheet-requires c).After-row_of-p)
 
 pub offset_bounds-sheet-k : goal.offset_bounds-sheet-k
-offset_bounds-sheet-k c = record { fits = omega (arith, k-within (goal.at.offset_bounds-sheet-k c).After-wide-k) }
+offset_bounds-sheet-k c = record { fits = omega (arith, one_account (on_line (goal.at.offset_bounds-sheet-k c).After-row_of-p) c.wide-k.result c.wide-k.ensures c.if-p-eq-TRADE.false (sym c.net_of_all.ensures ∙ c.if-net_of_all.false), c.wide-k.ensures) }
 
 pub bounds-sheet-k : goal.bounds-sheet-k
-bounds-sheet-k c = k-within (goal.at.bounds-sheet-k c).After-wide-k
+bounds-sheet-k c = omega (arith, one_account (on_line (goal.at.bounds-sheet-k c).After-row_of-p) c.wide-k.result c.wide-k.ensures c.if-p-eq-TRADE.false (sym c.net_of_all.ensures ∙ c.if-net_of_all.false), c.wide-k.ensures)
 
 pub change-t-requires : goal.change-t-requires
 change-t-requires c =
-    let at = (goal.at.change-t-requires c).After-wide-k in
-    one_room (on_line (of_one (goal.at.change-t-requires at).After-row_of-p)) c.wide-k.result c.wide-k.ensures c.if-p-eq-TRADE.false (named at)
+    one_room (on_line (goal.at.change-t-requires c).After-row_of-p) c.wide-k.result c.wide-k.ensures c.if-p-eq-TRADE.false (sym c.net_of_all.ensures ∙ c.if-net_of_all.false)
 
 pub offset_bounds-sheet-k-else-net_of_all : goal.offset_bounds-sheet-k-else-net_of_all
-offset_bounds-sheet-k-else-net_of_all c = record { fits = omega (arith, k-within (goal.at.offset_bounds-sheet-k-else-net_of_all c).After-wide-k) }
+offset_bounds-sheet-k-else-net_of_all c = record { fits = omega (arith, one_account (on_line (goal.at.offset_bounds-sheet-k-else-net_of_all c).After-row_of-p) c.wide-k.result c.wide-k.ensures c.if-p-eq-TRADE.false (sym c.net_of_all.ensures ∙ c.if-net_of_all.false), c.wide-k.ensures) }
 
 pub bounds-sheet-k-else-net_of_all : goal.bounds-sheet-k-else-net_of_all
-bounds-sheet-k-else-net_of_all c = k-within (goal.at.bounds-sheet-k-else-net_of_all c).After-wide-k
+bounds-sheet-k-else-net_of_all c = omega (arith, one_account (on_line (goal.at.bounds-sheet-k-else-net_of_all c).After-row_of-p) c.wide-k.result c.wide-k.ensures c.if-p-eq-TRADE.false (sym c.net_of_all.ensures ∙ c.if-net_of_all.false), c.wide-k.ensures)
 
 pub overflow_add-places : goal.overflow_add-places
 overflow_add-places c =
-    let from = start (goal.at.overflow_add-places c).After-row_of-p in
+    let from = (goal.at.overflow_add-places c).Start in
     let at = c.loop-i in
     record { fits = omega (arith, count_few (a from) (site from) (postable from), c.loop-i-test.true, at.invariant.2) }
 
 pub overflow_step-i : goal.overflow_step-i
 overflow_step-i c =
-    let from = start (goal.at.overflow_step-i c).After-row_of-p in
+    let from = (goal.at.overflow_step-i c).Start in
     record { fits = omega (arith, count_few (a from) (site from) (postable from), c.loop-i-test.true) }
 
 pub loop-i-preserved : goal.loop-i-preserved
 loop-i-preserved c =
-    let at = c.loop-i in (
+    let at = c.loop-i in
+    let line = on_line (goal.at.loop-i-preserved c).After-row_of-p in (
       omega (arith, c.loop-i-test.true),
-      ⊎_elim
-          (λ w. w.7 ∙ trade_line (on_line (goal.at.loop-i-preserved c).After-row_of-p) w.1.result w.1.ensures w.0.taken w.3.result w.4.result w.3.ensures w.4.ensures w.6.result w.6.ensures)
-          (⊎_elim
-          (λ w. w.4 ∙ w.3.ensures ∙ line_nets_all (on_line (goal.at.loop-i-preserved c).After-row_of-p) (sym w.1.ensures ∙ w.2.taken))
-          (λ w. w.6 ∙ one_line (on_line (goal.at.loop-i-preserved c).After-row_of-p) w.3.result w.3.ensures w.0.left (sym w.1.ensures ∙ w.2.left) w.5.result w.5.ensures))
-          c.if-p-eq-TRADE.branch,
+      elim c.if-p-eq-TRADE.branch [
+        | then-p-eq-TRADE w ↦
+            w.sheet-is
+            ∙ trade_line line w.wide-a.result w.wide-a.ensures w.if-p-eq-TRADE.true w.trade-t.result w.wide-b.result w.trade-t.ensures w.wide-b.ensures w.trade-v.result w.trade-v.ensures
+        | else-p-eq-TRADE+then-net_of_all w ↦ w.sheet-is ∙ w.net_all-sheet.ensures ∙ line_nets_all line (sym w.net_of_all.ensures ∙ w.if-net_of_all.true)
+        | else-p-eq-TRADE+else-net_of_all w ↦
+            w.sheet-is
+            ∙ one_line line w.wide-k.result w.wide-k.ensures w.if-p-eq-TRADE.false (sym w.net_of_all.ensures ∙ w.if-net_of_all.false) w.change-t.result w.change-t.ensures
+      ],
       ap (λ (n : ℕ). n + 1) at.invariant.2,
     )
 

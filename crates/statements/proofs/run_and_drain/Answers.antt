@@ -48,20 +48,19 @@ after_run c =
 run : (c : After-run_events) → view (setup c) (after_run c) ≡ running (fresh_board (setup c)) (calls c)
 run c = fresh_run (setup c) c.args.input.now (replicate 4096 0) c.event_count-events.result c.event_count-events.ensures (after_run c) c.run_events.new.numbers c.run_events.ensures.carried_after
 
-abbrev limit : After-drain_events-done → ℕ
-limit c = c.args.limit
-
 abbrev left : After-drain_events-done → Arrays
 left c =
     let l = c.drain_events-done.new in
     arrays l.words l.counts l.bytes l.amounts l.masks l.good l.carried
 
-stays : (c : After-drain_events-done) → StaysSound (fresh_board (setup c.before.before.before.before.before.before.before.before.before))
-stays c = c.requires.0
-
-sound : (c : After-drain_events-done) → is_sound (view (setup c.before.before.before.before.before.before.before.before.before) (left c)) ≡ true
+sound : (c : After-drain_events-done) → is_sound (view c.args.setup (left c)) ≡ true
 sound c =
-    rw (settled_view (setup c.before.before.before.before.before.before.before.before.before) (calls c.before.before.before.before.before.before.before.before.before) (limit c) (stays c) (after_run c.before.before.before.before.before.before.before.before.before) (left c) (run c.before.before.before.before.before.before.before.before.before) c.drain_events-done.ensures.carried_after) (settled_sound (setup c.before.before.before.before.before.before.before.before.before) (calls c.before.before.before.before.before.before.before.before.before) (limit c) (stays c))
+    let l = c.run_events.new in
+    let ran = arrays l.words l.counts l.bytes l.amounts l.masks l.good l.carried in
+    let input = c.args.input.now in
+    let shown = fresh_run c.args.setup input (replicate 4096 0) c.event_count-events.result c.event_count-events.ensures ran l.numbers c.run_events.ensures.carried_after in
+    rw (settled_view c.args.setup (calls_of input) c.args.limit c.requires.0 ran (left c) shown c.drain_events-done.ensures.carried_after)
+    (settled_sound c.args.setup (calls_of input) c.args.limit c.requires.0)
 
 pub drain_events-done-requires : goal.drain_events-done-requires
 drain_events-done-requires c =
@@ -83,10 +82,10 @@ returns c =
     let d = left at in
     let r = run (goal.at.returns c).After-run_events in
     let done = c.drain_events-done.ensures in
-    let books = settled_books s l (limit at) (stays at) a d r done.carried_after _ c.args.out.now _ (c.books_all_at-answer.ensures d.sets d.masks d.good d.carried) in let shown = (
-      settled_count s l (limit at) (stays at) a d r done.carried_after _ done.count_value,
-      (
-        settled_down s l (limit at) (stays at) a d r done.carried_after,
-        (c.refusal_of-why.ensures ∙ ap refusal_of books.0, (settled_setup s l (limit at) (stays at) a d r done.carried_after, books.1)),
-      ),
-    ) in record { count_value = shown.0; down_value = shown.1.0; why_value = shown.1.1.0; limit_value = shown.1.1.1.0; out_after = shown.1.1.1.1 }
+    let books = settled_books s l c.args.limit c.requires.0 a d r done.carried_after _ c.args.out.now _ (c.books_all_at-answer.ensures d.sets d.masks d.good d.carried) in record {
+      count_value = settled_count s l c.args.limit c.requires.0 a d r done.carried_after _ done.count_value;
+      down_value = settled_down s l c.args.limit c.requires.0 a d r done.carried_after;
+      why_value = c.refusal_of-why.ensures ∙ ap refusal_of books.0;
+      limit_value = settled_setup s l c.args.limit c.requires.0 a d r done.carried_after;
+      out_after = books.1;
+    }

@@ -31,4 +31,4 @@ pub returns : goal.returns
 returns c =
     let g = c.args in
     let done = c.run_and_drain-left in
-    let n = c.wide-count in let shown = printed_as g.out.now (settled_text g.setup (calls_of g.input.now) c.requires.0 _ done.new.1.1.1.0 (64 * n.result) done.result.down done.ensures.1.1.1.0 done.ensures.1.1.1.1 done.ensures.1.0 (ap (λ (k : ℕ). 64 * k) n.ensures) (room (goal.at.returns c).After-wide-count)) (c.print_statement.ensures.value, (c.print_statement.ensures.out_after, c.print_statement.ensures.result_value)) in record { value = shown.0; out_after = shown.1.0; result_value = shown.1.1 }
+    let n = c.wide-count in let shown = printed_as g.out.now (settled_text g.setup (calls_of g.input.now) c.requires.0 _ done.new.out (64 * n.result) done.result.down done.ensures.limit_value done.ensures.out_after done.ensures.down_value (ap (λ (k : ℕ). 64 * k) n.ensures) (room (goal.at.returns c).After-wide-count)) (c.print_statement.ensures.value, (c.print_statement.ensures.out_after, c.print_statement.ensures.result_value)) in record { value = shown.0; out_after = shown.1.0; result_value = shown.1.1 }
