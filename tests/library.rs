@@ -6,17 +6,16 @@ use std::process::Command;
 use std::time::SystemTime;
 use std::{env, fs};
 
-/// The crates that a crate's line in crates.txt names.
+/// The crates that a crate's line in crates.txt names. Its name may have a word behind it, as `staticlib`.
 fn named(text: &str, name: &str) -> Vec<String> {
-    let line = text
-        .lines()
-        .find_map(|line| line.split_once(':').filter(|(own, _)| *own == name));
+    let mut lines = text.lines().filter_map(|line| line.split_once(':'));
+    let line = lines.find(|(own, _)| own.split_whitespace().next() == Some(name));
     let names = line.map(|(_, names)| names).unwrap_or("");
     names.split_whitespace().map(str::to_string).collect()
 }
 
-/// The crate and all that it rests on.
-fn crates(root: &Path, name: &str) -> Vec<PathBuf> {
+/// The folders of what is written of the crate and of all that it rests on; beside them lies what rt makes.
+fn sources(root: &Path, name: &str) -> Vec<PathBuf> {
     let text = fs::read_to_string(root.join("crates.txt")).expect("crates.txt is at the root");
     let mut all = vec![name.to_string()];
     let mut next = 0;
@@ -28,8 +27,10 @@ fn crates(root: &Path, name: &str) -> Vec<PathBuf> {
         }
         next += 1;
     }
-    all.iter()
-        .map(|name| root.join("crates").join(name))
+    let folders = all.iter().map(|name| root.join("crates").join(name));
+    folders
+        .flat_map(|folder| ["src", "specs", "proofs"].map(|part| folder.join(part)))
+        .filter(|path| path.exists())
         .collect()
 }
 
@@ -46,13 +47,13 @@ fn changed(path: &Path) -> SystemTime {
 
 fn make(root: &Path, name: &str) {
     let made = Command::new("rt")
-        .args(["staticlib", name])
-        .current_dir(root)
+        .arg("lib")
+        .current_dir(root.join("crates").join(name))
         .output()
         .expect("rt is on the path");
     assert!(
         made.status.success(),
-        "rt staticlib {name}:\n{}{}",
+        "rt lib in crates/{name}:\n{}{}",
         String::from_utf8_lossy(&made.stdout),
         String::from_utf8_lossy(&made.stderr)
     );
@@ -62,9 +63,9 @@ fn make(root: &Path, name: &str) {
 fn link(name: &str) {
     let here = PathBuf::from(env::var_os("CARGO_MANIFEST_DIR").expect("cargo sets it"));
     let root = here.join("../..");
-    let folder = root.join("target/staticlib");
+    let folder = root.join("crates").join(name).join("out");
     let archive = folder.join(format!("lib{name}.a"));
-    let sources = crates(&root, name);
+    let sources = sources(&root, name);
     if !archive.exists() || sources.iter().any(|path| changed(path) > changed(&archive)) {
         make(&root, name);
     }

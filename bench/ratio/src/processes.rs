@@ -1,5 +1,5 @@
 // Holds: what a run of the program `audit` costs from its start to its end, beside the twin's, on the same files.
-// Rests on: records; the model's random numbers, the plain twin, target/bin/audit, and /proc/self/stat.
+// Rests on: records; the model's random numbers, the plain twin, crates/audit/out/audit, and /proc/self/stat.
 
 use crate::records::Records;
 use model::prng::Prng;
@@ -37,10 +37,10 @@ struct Side {
     words: &'static [&'static str],
 }
 
-/// A path below target.
-fn target(name: &str) -> PathBuf {
+/// A path of the repository.
+fn path(name: &str) -> PathBuf {
     let root = Path::new(env!("CARGO_MANIFEST_DIR")).join("../..");
-    root.join("target").join(name)
+    root.join(name)
 }
 
 /// Is the twin if the words ask for that; whether they do.
@@ -123,7 +123,7 @@ fn sides() -> io::Result<[Side; 2]> {
     };
     let proved = Side {
         name: "proved",
-        program: target("bin/audit").canonicalize()?,
+        program: path("crates/audit/out/audit").canonicalize()?,
         words: &[],
     };
     Ok([twin, proved])
@@ -133,10 +133,12 @@ fn sides() -> io::Result<[Side; 2]> {
 pub fn table() {
     println!("Programs: files read, audited, the report printed. ms of processor time a run.\n");
     let Ok(sides) = sides() else {
-        return println!("Left out: target/bin/audit is not there; `rt check audit` makes it.\n");
+        return println!(
+            "Left out: crates/audit/out/audit is not there; `rt run` in crates/audit makes it.\n"
+        );
     };
     let records = Records::new(&mut Prng::new(SEED), POSTINGS, None);
-    let folder = target("programs");
+    let folder = path("target/programs");
     let sites = write(&records, &folder).expect("the files can be written");
     print!("{:24}  postings   lines", "files");
     sides.iter().for_each(|side| print!("  {:>10}", side.name));

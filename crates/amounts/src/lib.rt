@@ -1,6 +1,7 @@
 // Signed numbers written into a lent slice, plain or as cents; whether two numbers are the same.
 // Rests on printer and on books for the size of a number.
 #![tactic(auto)]
+
 ghost use Rattle.std.specs.Prelude.{◌≡◌};
 ghost use Rattle.printer.specs.Output.{last_digit};
 ghost use Rattle.printer.specs.Puts.{Put};

@@ -1,6 +1,7 @@
 // A board at work, laid out in flat arrays that are lent: where each part of it stands, and sets and masks where they lie.
 // Rests on flight, steps, masks, site, posting and sets. A struct that is handed over is copied, and an array that is lent is not.
 #![tactic(auto)]
+
 ghost use Rattle.std.specs.Prelude.{◌<◌, ◌≡◌};
 ghost use Rattle.sets.specs.Sets.{capacity};
 ghost use Rattle.site.specs.Sites.{sites};

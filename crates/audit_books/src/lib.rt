@@ -1,6 +1,7 @@
 // The books of a record of up to 65,536 lines, posted from zeros.
 // Rests on books for what a posting does to an account, and on audit_input for what is refused.
 #![tactic(auto)]
+
 ghost use Rattle.std.specs.Prelude.{◌≡◌, ◌++◌, ◌*◌, ◌<◌, ◌≤◌, length, drop};
 ghost use Rattle.books.specs.Books.{books, blank, numbers, sheet_of};
 ghost use Rattle.audit_rule.specs.Handed.{table_of};

@@ -1,6 +1,7 @@
 // Files of an audit: their bytes decoded into postings and records, with the first refusal, its file and line.
 // Rests on audit_input and posting for what is refused. Slices are lent; nothing past them is read.
 #![tactic(auto)]
+
 pub mod entries;
 pub mod files;
 

@@ -1,6 +1,7 @@
 // The judge of what is handed over for an audit: the first refusal that applies, with its place.
 // Rests on posting for the field rule and the matrix, and on audit_pair for places in a record.
 #![tactic(auto)]
+
 ghost use Rattle.std.specs.Prelude.{◌≡◌, ℕ, ◌<◌, ◌≤◌, length, get_or};
 ghost use Rattle.audit_rule.specs.Audit.{joined, lowest};
 ghost use Rattle.audit_rule.specs.Handed.{start_of, record_of};

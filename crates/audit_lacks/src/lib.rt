@@ -1,6 +1,7 @@
 // Which postings a site lacks that others hold: how many, and the lowest; and how many postings there are.
 // Rests on audit_pair for marks, and on audit_input for where a site's lines begin.
 #![tactic(auto)]
+
 ghost use Rattle.std.specs.Prelude.{◌≡◌, ℕ, ◌<◌, ◌≤◌, cond, not, eqb, length, get_or};
 ghost use Rattle.sets.specs.Below.{all_below, count};
 ghost use Rattle.broadcast.specs.Lists.{mem};

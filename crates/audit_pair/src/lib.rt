@@ -1,6 +1,7 @@
 // The pair of postings that shows where records depart: the lowest posting that differs at a line, and what the records say of the two.
 // Rests on posting, and on audit_rule for what it means.
 #![tactic(auto)]
+
 ghost use Rattle.std.specs.Prelude.{◌≡◌, true, ◌&&◌, ℕ, ◌<◌, ◌≤◌, eqb, length, get_or, set};
 ghost use Rattle.posting.specs.Conflicts.{conflict};
 ghost use Rattle.audit_rule.specs.Audit.{lowest, finding, ahead_of};

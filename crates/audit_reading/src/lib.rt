@@ -1,6 +1,7 @@
 // The audit in one reading of the records: the first line that departs.
 // Rests on posting for kinds and for what nets every account, and on audit_rule for what it means.
 #![tactic(auto)]
+
 ghost use Rattle.std.specs.Prelude.{◌≡◌, true, cond, ◌+◌, ◌*◌, ◌<◌, ◌≤◌, max, length, get_or};
 ghost use Rattle.posting.specs.Kinds.{accounts_ok};
 ghost use Rattle.audit_rule.specs.Reading.{row_in};

@@ -1,6 +1,7 @@
 // The audit of records that were handed over, for any arguments.
 // Rests on audit_input, which judges them, audit_reading, which finds the line that departs, and audit_pair, which finds the pair that shows it.
 #![tactic(auto)]
+
 ghost use Rattle.std.specs.Prelude.{◌≡◌, ◌++◌, ℕ, ◌≤◌, length, get_or, drop};
 ghost use Rattle.audit_rule.specs.Audit.{departs, audit};
 ghost use Rattle.audit_rule.specs.Handed.{record_of};

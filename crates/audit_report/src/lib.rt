@@ -1,6 +1,7 @@
 // The audit's report, written into a lent slice: a place past it is counted and nothing is put there.
 // Rests on audit_records for the answer, on audit_books for figures, on audit_lacks for what a site lacks, on audit_witness and audit_table for words.
 #![tactic(auto)]
+
 ghost use Rattle.std.specs.Prelude.{◌≡◌, ◌<◌, ◌≤◌, cond, length, get_or};
 ghost use Rattle.printer.specs.Puts.{Put};
 ghost use Rattle.printer.specs.Writing.{slice_printed, answer_printed};

@@ -1,6 +1,7 @@
 // The figures of several sites side by side, written into a lent slice: a place past it is counted and nothing is put there.
 // Rests on amounts for figures as text, on printer.
 #![tactic(auto)]
+
 ghost use Rattle.std.specs.Prelude.{◌≡◌, ◌<◌, ◌++◌};
 ghost use Rattle.sets.specs.Below.{any_below};
 ghost use Rattle.printer.specs.Output.{decimal};

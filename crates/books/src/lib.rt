@@ -1,6 +1,7 @@
 // The books: what postings do to the sixteen accounts, in exact sums, and the books of records in a lent slice.
 // Rests on posting, on ten_thousandths for calls, on masks and sets for small things.
 #![tactic(auto)]
+
 ghost use Rattle.std.specs.Prelude.{◌≡◌, cond, ◌++◌, ℕ, ◌+◌, ◌*◌, ◌<◌, ◌≤◌, eqb, nat_abs, ◌*ℤ◌, length, take, drop};
 ghost use Rattle.posting.specs.Records.{numbers_of};
 ghost use Rattle.books.specs.Effect.{size_of_call, on_trade, on_rate, on_call, on_net, change};

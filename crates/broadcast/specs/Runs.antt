@@ -1,6 +1,6 @@
 -- The events, whole and cut, as compositions of the machine's steps; when one may happen; what a run reaches.
 -- Rests on Machine. The order of the events is Figure 1's; document 01, "What a site does", has the same in words.
-use Rattle.std.specs.Prelude.{ℕ, zero, ◌-◌, ◌+◌, ◌<◌, ◌≤◌, ◌≡◌, Bool, true, false, cond, not, ◌&&◌, ◌||◌, List, [], ◌∷◌, eqb, ltb, leb, get_or, length}
+use Rattle.std.specs.Prelude.{ℕ, ◌-◌, ◌+◌, ◌<◌, ◌≤◌, ◌≡◌, Bool, true, false, cond, not, ◌||◌, List, [], ◌∷◌, eqb, leb, get_or, length}
 use Rattle.broadcast.specs.Counts.{bit, count, majority}
 use Rattle.broadcast.specs.Machine.{World, State, Cut, whole, part, to_all, to_others, down_if, down, send_first, take_first, see, send_second, hear_second, take_second, step, send_third, hear_third, take_third, finish, send_deliver, enter_pool, take_deliver, get, deliver_at, append, advance, entry_of}
 

@@ -1,6 +1,7 @@
 // The field rule, the matrix, conflicts, C(m), effects and books with plain arguments: numbers, and tables and records as bytes.
 // Rests on books, posting and sets. Each function takes any arguments: it tests them, and refuses by an answer.
 #![tactic(auto)]
+
 ghost use Rattle.std.specs.Prelude.{◌≡◌, ◌++◌, ◌≤◌, length, take, drop};
 ghost use Rattle.sets.specs.Sets.{words};
 ghost use Rattle.posting.specs.Kinds.{fields_ok, symmetric, has_fixed_pairs};

@@ -1,6 +1,7 @@
 // The service's calls by value, from the bytes of a run file: a whole run, and one call of a board of which one number was changed.
 // Rests on machine, opening, shown and drain for the calls, on decoder for files, on counted for answers, on image for a board as a row of numbers.
 #![tactic(auto)]
+
 use machine::Board;
 use steps::Call;
 

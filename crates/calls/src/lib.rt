@@ -1,6 +1,7 @@
 // Offer, order, read and crash, whole and cut, with their refusals.
 // Rests on flat.
 #![tactic(auto)]
+
 ghost use Rattle.std.specs.Prelude.{ℕ, ◌<◌, ◌≤◌, ◌≡◌, List, set};
 ghost use Rattle.sets.specs.Sets.{capacity};
 ghost use Rattle.site.specs.Sites.{sites};

@@ -1,6 +1,7 @@
 // What is in flight on a board, tested cell by cell; blocks of empty cells are passed over at once.
 // Rests on flight, site, masks, posting and sets. A part of the test for soundness.
 #![tactic(auto)]
+
 ghost use Rattle.std.specs.Prelude.{◌+◌, ◌^◌, ◌≤◌, ◌≡◌, eqb};
 ghost use Rattle.flight.specs.Flights.{cells};
 ghost use Rattle.cells.specs.Cells.{third_sound, cell_sound, block, block_sound, cells_sound, joined};

@@ -1,6 +1,7 @@
 // Run files run, over an input and an output slice, with a count as the answer.
 // Rests on runfile and statements, on decoder and printer. Each function takes any bytes: a slice without room for the output stays as it was, and the answer says so.
 #![tactic(auto)]
+
 ghost use Rattle.std.specs.Prelude.{◌≤◌, ◌≡◌, false};
 ghost use Rattle.machine.specs.Boards.{fresh_board};
 ghost use Rattle.invariants.proofs.Reached.{GoodIf};

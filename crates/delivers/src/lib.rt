@@ -1,6 +1,7 @@
 // DELIVER m received: at the first receipt it goes on to all but the receiver, unless that is m's owner, and then m is delivered.
 // Rests on flat.
 #![tactic(auto)]
+
 ghost use Rattle.std.specs.Prelude.{ℕ, ◌<◌, ◌≡◌, List};
 ghost use Rattle.sets.specs.Sets.{capacity};
 ghost use Rattle.site.specs.Sites.{sites};

@@ -1,6 +1,7 @@
 // Delivery into a record where it lies: a posting, and a log entry, each posting only if the record lacks it.
 // Rests on arrays and sets. What a record has is kept as a set beside it, so that no delivery walks the record.
 #![tactic(auto)]
+
 ghost use Rattle.std.specs.Prelude.{◌+◌, ◌<◌, ◌≤◌, ◌≡◌};
 ghost use Rattle.sets.specs.Sets.{capacity};
 ghost use Rattle.site.specs.Sites.{sites};

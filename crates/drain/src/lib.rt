@@ -1,6 +1,7 @@
 // Drain: events, uncut, until the board is quiet or the limit is used up; on a board at work, and on a board by value.
 // Rests on next, on whole_board and invariants.
 #![tactic(auto)]
+
 ghost use Rattle.std.specs.Prelude.{◌≡◌, true, false};
 ghost use Rattle.arrays.specs.Arrays.{arrays};
 ghost use Rattle.machine.specs.Soundness.{is_sound};

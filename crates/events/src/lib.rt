@@ -1,6 +1,7 @@
 // Every event of a board at work, in place over its lent arrays: the code of offer, receive, order, read and crash, whole and cut.
 // Rests on receipts, on calls. The answer is 0, or the number of the refusal, and then nothing is changed.
 #![tactic(auto)]
+
 ghost use Rattle.std.specs.Prelude.{◌≤◌, ◌≡◌};
 ghost use Rattle.site.specs.Sites.{sites};
 ghost use Rattle.arrays.specs.Arrays.{arrays};

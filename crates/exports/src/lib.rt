@@ -1,6 +1,7 @@
 // What other languages call: every function of the C interface, its body one call. include/board.h says in words what each takes and gives.
 // Rests on counted, by_value, run_lookups, by_bytes, audit_records and audit_books. Each function takes any arguments and refuses by an answer; a slice crosses as a pointer and a length.
 #![tactic(auto)]
+
 ghost use Rattle.std.specs.Prelude.{◌≡◌, length};
 ghost use Rattle.posting.specs.Kinds.{fields_ok, symmetric, has_fixed_pairs};
 ghost use Rattle.posting.specs.Conflicts.{conflicting};

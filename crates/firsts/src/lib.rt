@@ -1,6 +1,7 @@
 // FIRST m received: m joins seen; SECOND goes to all, GOOD if seen meets C(m) in m alone, else BAD.
 // Rests on flat.
 #![tactic(auto)]
+
 ghost use Rattle.std.specs.Prelude.{ℕ, ◌<◌, ◌≡◌, List};
 ghost use Rattle.sets.specs.Sets.{capacity};
 ghost use Rattle.site.specs.Sites.{sites};

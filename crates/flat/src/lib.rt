@@ -1,6 +1,7 @@
 // A message that leaves with nothing sent: what the steps of all forms share. specs/Flat says what every event does to the arrays.
 // Rests on arrays, on steps for the cut.
 #![tactic(auto)]
+
 ghost use Rattle.std.specs.Prelude.{ℕ, ◌<◌, ◌≡◌, List};
 ghost use Rattle.sets.specs.Sets.{capacity};
 ghost use Rattle.site.specs.Sites.{sites};

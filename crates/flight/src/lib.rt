@@ -2,6 +2,7 @@
 // Rests on site, posting and sets. Each function is over one array, lent where it lies, and answers for all arguments: what is out of range
 // is not in flight.
 #![tactic(auto)]
+
 ghost use Rattle.std.specs.Prelude.{◌≡◌, take};
 ghost use Rattle.flight.specs.Flights.{cells, pair_at, cell_at, set_in, nothing_comes, empty_flight};
 

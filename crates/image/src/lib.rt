@@ -1,6 +1,7 @@
 // A board as a row of numbers: every number of Board in the order of its fields. A test changes one of them, and compares what a call leaves.
 // Rests on machine, flight, site, posting and sets.
 #![tactic(auto)]
+
 ghost use Rattle.std.specs.Prelude.{◌≡◌, cond, ltb};
 ghost use Rattle.image.specs.Layout.{image_long};
 ghost use Rattle.image.specs.Image.{changed};

@@ -1,6 +1,7 @@
 // C(m) from an index of the postings offered, by row and kind: at most eight sets are joined, however many postings there are. A row stands
 // for an account, the last for all. Rests on arrays, posting and sets. The index is beside the board and not of it.
 #![tactic(auto)]
+
 ghost use Rattle.std.specs.Prelude.{◌<◌, ◌≡◌, true};
 ghost use Rattle.sets.specs.Sets.{capacity};
 ghost use Rattle.posting.specs.Kinds.{kinds, accounts_ok};

@@ -1,6 +1,7 @@
 // What a board has, laid out on flat arrays, array by array.
 // Rests on arrays and index, on site, posting and sets.
 #![tactic(auto)]
+
 ghost use Rattle.std.specs.Prelude.{◌+◌, ◌<◌, ◌≤◌, ◌≡◌};
 ghost use Rattle.std.proofs.lemmas.List.Edits.{sets};
 ghost use Rattle.sets.specs.Sets.{capacity};

@@ -1,6 +1,7 @@
 // Pairs of site and account, as bytes: the first refusal, the sites that they name, and their lines copied out of the figures of sites.
 // Rests on books for how figures stand, on steps for causes, on posting, masks and sets.
 #![tactic(auto)]
+
 ghost use Rattle.std.specs.Prelude.{◌+◌, ◌*◌, ◌≤◌, ◌≡◌, ◌++◌, leb, length, get_or, take, drop};
 ghost use Rattle.sets.specs.Below.{any_below};
 ghost use Rattle.masks.specs.SiteMasks.{room};

@@ -1,6 +1,7 @@
 // Many balances looked up at once, on a board at work and on any board: the record of each site named is gone through once, the others not at all.
 // Rests on lookup_pairs for pairs, on passes for the pass through a record, on books for figures, on machine for what the arrays show.
 #![tactic(auto)]
+
 ghost use Rattle.std.specs.Prelude.{ℕ, ◌*◌, ◌<◌, ◌≤◌, ◌≡◌, true, cond, List, [], length};
 ghost use Rattle.sets.specs.Masks.{has_bit};
 ghost use Rattle.books.specs.Bounds.{Postable};

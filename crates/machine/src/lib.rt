@@ -1,6 +1,7 @@
 // The board: n sites, what is in flight, the pool and the log; the calls that a board takes, and what they answer.
 // Rests on flight, site, books, posting and sets.
 #![tactic(auto)]
+
 use flight::Flight;
 use posting::{Record, Table};
 use sets::{POSTINGS, Set};

@@ -1,6 +1,7 @@
 // Masks of sites: a byte has a bit for each of at most 7 sites.
 // Rests on sets for the bits of a number.
 #![tactic(auto)]
+
 ghost use Rattle.std.specs.Prelude.{◌^◌, ◌≡◌, ltb};
 ghost use Rattle.sets.specs.Masks.{has_bit};
 ghost use Rattle.masks.specs.SiteMasks.{room, only_site, every_site, with_site, with_site_if, next_site, first_sites, relay_to};

@@ -1,6 +1,7 @@
 // A pass through the record of a site of a board at work, where it lies: its postings posted line by line from zeros, and its places counted.
 // Rests on books for what a posting does, on views for rows, on arrays for where a record lies. Nothing is copied but the row of a line.
 #![tactic(auto)]
+
 ghost use Rattle.std.specs.Prelude.{◌<◌, ◌≡◌, [], length};
 ghost use Rattle.posting.specs.Records.{numbers_of};
 ghost use Rattle.books.specs.Books.{blank, books, sheet_of};

@@ -1,6 +1,7 @@
 // Postings, the table of those offered, records, and which postings conflict.
 // Rests on sets.
 #![tactic(auto)]
+
 ghost use Rattle.std.specs.Prelude.{◌≡◌, not, ◌&&◌, ◌<◌, ◌/◌, ◌%◌};
 ghost use Rattle.posting.specs.Kinds.{in_row, net_of_all, accounts_ok, fields_ok, matrix_entry, symmetric, pair_ok, has_fixed_pairs};
 ghost use Rattle.posting.specs.Conflicts.{row, offered_by, touches, shares, conflicting, conflict_set};

@@ -1,6 +1,7 @@
 // What program `board` prints, written into a lent slice.
 // Rests on books. Document 01, "Program `board`", gives the format.
 #![tactic(auto)]
+
 use books::Records;
 use posting::Record;
 

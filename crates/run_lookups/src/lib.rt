@@ -1,6 +1,7 @@
 // A run file run, and balances looked up on the board that it leaves: in place, and by value on that board with one number replaced.
 // Rests on lookups, on runfile for a run, on by_value and image for a changed board. Each public function takes any bytes.
 #![tactic(auto)]
+
 ghost use Rattle.std.specs.Prelude.{◌≤◌, ◌≡◌};
 ghost use Rattle.machine.specs.Boards.{fresh_board};
 ghost use Rattle.machine.specs.Calls.{refusal_of};

@@ -1,6 +1,7 @@
 // A run file run and printed, and what is shown of the board that the run ends on.
 // Rests on whole_board and printer.
 #![tactic(auto)]
+
 ghost use Rattle.std.specs.Prelude.{ℕ, ◌≡◌, List};
 ghost use Rattle.site.specs.declared.Setup.{Setup};
 ghost use Rattle.arrays.specs.Arrays.{arrays};

@@ -16,8 +16,8 @@ use borrow.Author.Tests.{eq-eqb, ne_eqb, eqb-true, lt-ltb, le-ltb, ltb-true}
 use Rattle.sets.specs.Masks.{has_bit}
 use Rattle.sets.proofs.MaskLaws.{has_bit_zero, has_bit_or, has_bit_and, has_bit_set, has_bit_clear, bits_ext}
 use Rattle.sets.proofs.Truth.{test, never, both_ways, and_left, and_right, and_implied}
-use Rattle.sets.specs.Numbers.{listed, distinct, rising}
-use Rattle.sets.proofs.NumberLaws.{listed_append, rising_last, rising_distinct}
+use Rattle.sets.specs.Numbers.{listed, rising}
+use Rattle.sets.proofs.NumberLaws.{listed_append, rising_last}
 use Rattle.sets.specs.Words.{word, member, insert, remove, insert_if, wordwise, union, intersect, is_empty, is_subset, collect, members_below, members, Words}
 
 -- ---- words

@@ -1,6 +1,7 @@
 // One site: its sets, what it has heard, its log place and its record; and the third round of the postings that it owns.
 // Rests on masks and posting.
 #![tactic(auto)]
+
 ghost use Rattle.std.specs.Prelude.{◌≡◌};
 ghost use Rattle.site.specs.Steps.{alone, majority};
 ghost use Rattle.site.specs.ByMask.{reached, late};

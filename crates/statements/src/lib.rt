@@ -1,6 +1,7 @@
 // The program `statement`: a run file is run, the board drained to quiet, and the books of every site printed; and the same without printing.
 // Rests on its modules lines and same for the lines, on decoder and runfile for the file and its run, on printer for what is printed, on drain and machine.
 #![tactic(auto)]
+
 ghost use Rattle.std.specs.Prelude.{◌≤◌, ◌≡◌, false};
 ghost use Rattle.machine.specs.Boards.{fresh_board};
 ghost use Rattle.machine.specs.Calls.{refusal_of};

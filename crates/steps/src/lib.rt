@@ -1,6 +1,7 @@
 // What the events of a board share: calls, a step cut, and refusals.
 // Rests on site, posting, masks and sets.
 #![tactic(auto)]
+
 pub mod cuts;
 pub mod refusals;
 

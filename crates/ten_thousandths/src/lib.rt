@@ -1,6 +1,7 @@
 // A number of ten-thousandths in whole ones, rounded up, worked from 10,000 times powers of two, largest first, by subtracting and
 // comparing (document 02, W4): nothing here divides, takes a remainder or shifts to the right. Rests on std, whose difference wraps.
 #![tactic(auto)]
+
 ghost use Rattle.std.specs.Prelude.{◌≡◌, ◌^◌, ◌<◌};
 ghost use Rattle.ten_thousandths.specs.Rounding.{ten_thousandths};
 ghost use Rattle.ten_thousandths.specs.Parts.{lessened};

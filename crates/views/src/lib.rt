@@ -1,6 +1,7 @@
 // What the flat arrays show of a board, taken off them: sites, tallies, rows, entries, the log.
 // Rests on arrays and books.
 #![tactic(auto)]
+
 ghost use Rattle.std.specs.Prelude.{ℕ, ◌+◌, ◌<◌, ◌≤◌, ◌≡◌, List};
 ghost use Rattle.sets.specs.Sets.{capacity};
 ghost use Rattle.books.specs.Books.{tabulate};

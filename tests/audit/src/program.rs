@@ -1,5 +1,5 @@
 // Holds: the program `audit` run on files in a folder of its own, and the plain program on the same files.
-// Rests on: files, report; target/bin/audit, made if it is not there.
+// Rests on: files, report; the program, crates/audit/out/audit, made if it is not there.
 
 use crate::{files, report};
 use std::path::{Path, PathBuf};
@@ -17,13 +17,13 @@ pub fn path(name: &str) -> PathBuf {
 pub fn program() -> &'static Path {
     static BUILT: OnceLock<PathBuf> = OnceLock::new();
     BUILT.get_or_init(|| {
-        let built = path("target/bin/audit");
+        let folder = path("crates/audit");
+        let built = folder.join("out/audit");
         if !built.exists() {
-            let made = Command::new("rt")
-                .args(["check", "audit"])
-                .current_dir(path("."))
-                .output();
-            assert!(made.expect("rt is on the path").status.success());
+            // It is run too, on no files.
+            let made = Command::new("rt").arg("run").current_dir(folder).output();
+            let said = made.expect("rt is on the path").stderr;
+            assert!(built.exists(), "{}", String::from_utf8_lossy(&said));
         }
         built.canonicalize().expect("it is there")
     })

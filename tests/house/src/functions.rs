@@ -1,6 +1,7 @@
 // Holds: the functions of the code, which functions each calls, and whether its body divides.
-// Rests on: tree.
+// Rests on: names, tree.
 
+use crate::names;
 use crate::tree::{crates, files, read};
 use std::collections::{BTreeMap, BTreeSet};
 use std::path::Path;
@@ -30,7 +31,14 @@ fn begins(line: &str) -> Option<&str> {
     let rest = ["pub extern \"C\" fn ", "pub fn ", "fn "]
         .iter()
         .find_map(|mark| words.strip_prefix(mark))?;
-    rest.split('(').next()
+    rest.split(['(', '<']).next()
+}
+
+/// Whether a line that begins a function takes the value that it is a method of.
+fn takes_self(line: &str) -> bool {
+    let first = line.split_once('(').map_or("", |(_, rest)| rest);
+    let first = first.trim_start_matches('&').trim_start_matches("mut ");
+    first.starts_with("self")
 }
 
 /// A function as its file has it: its name, whether it is a method, and its body. The contract is left out: it may divide.
@@ -49,7 +57,7 @@ fn written(text: &str) -> Vec<Written> {
         if let Some(name) = begins(line) {
             found.push(Written {
                 name: name.to_string(),
-                method: line.contains("(self"),
+                method: takes_self(line),
                 body: String::new(),
             });
         }
@@ -94,10 +102,10 @@ fn calls(body: &str) -> Vec<Call> {
         .collect()
 }
 
-/// The crates that the lines `use CRATE::NAME;` of a file bring names from.
+/// The crates that the items `use CRATE::NAME;` of a file bring names from.
 fn brought(text: &str) -> BTreeMap<String, String> {
-    let lines = text.lines().filter_map(|line| line.strip_prefix("use "));
-    let paths = lines.filter_map(|line| line.trim_end_matches(';').split_once("::"));
+    let all = names::brought(text);
+    let paths = all.iter().filter_map(|path| path.split_once("::"));
     paths
         .filter_map(|(own, path)| Some((path.split("::").last()?.to_string(), own.to_string())))
         .collect()

@@ -1,7 +1,7 @@
 // Holds: whether a file opens with what it holds and what it rests on, and whether that is what it uses.
 // Rests on: names, tree.
 
-use crate::names::uses;
+use crate::names::{brought, uses};
 use std::collections::{BTreeMap, BTreeSet};
 use std::path::Path;
 
@@ -48,8 +48,10 @@ fn listed(sentence: &str) -> BTreeSet<String> {
 
 /// The first parts of the paths that a file of code brings in.
 fn paths(text: &str) -> BTreeSet<String> {
-    let lines = text.lines().filter_map(|line| line.strip_prefix("use "));
-    let paths = lines.map(|line| line.strip_prefix("crate::").unwrap_or(line));
+    let brought = brought(text);
+    let paths = brought
+        .iter()
+        .map(|path| path.strip_prefix("crate::").unwrap_or(path));
     let called = text.split(|c: char| !c.is_alphanumeric() && c != '_' && c != ':');
     let called = called.filter(|word| word.contains("::"));
     let all = paths

@@ -3,12 +3,28 @@
 
 use std::collections::BTreeMap;
 
-/// The words of a line that is no comment.
+/// What separates words.
+fn separates(c: char) -> bool {
+    c.is_whitespace() || "(){}[],;λ|".contains(c)
+}
+
+/// The words of a line that is no comment. Of an item that brings in names only those count, and of a path not the crate: they may be spelled
+/// as a definition is.
 fn words(line: &str) -> impl Iterator<Item = &str> {
     let text = line.trim_start();
     let comment = text.starts_with("--") || text.starts_with("//");
-    let text = if comment { "" } else { text };
-    text.split(|c: char| c.is_whitespace() || "(){}[],;.λ|".contains(c))
+    let brings = text.starts_with("use ") || text.starts_with("ghost use ");
+    let text = match text.find(".{") {
+        _ if comment => "",
+        Some(at) if brings => &text[at..],
+        None if brings => "",
+        _ => text,
+    };
+    text.split(separates).flat_map(|path| {
+        let inside = path.strip_prefix("Rattle.");
+        let rest = inside.map(|rest| rest.split_once('.').map_or("", |(_, rest)| rest));
+        rest.unwrap_or(path).split('.')
+    })
 }
 
 /// How often each word stands in the texts.

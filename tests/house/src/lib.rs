@@ -2,6 +2,7 @@
 // Rests on: std.
 
 pub mod believed;
+pub mod clauses;
 pub mod functions;
 pub mod headers;
 pub mod laws;

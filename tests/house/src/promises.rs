@@ -1,8 +1,9 @@
 // Holds: the public functions whose promises must be believed, and what names their contracts use.
-// Rests on: names.
+// Rests on: clauses, names.
 
+use crate::clauses::said;
 use crate::names::{uses, Source};
-use std::collections::BTreeSet;
+use std::collections::{BTreeMap, BTreeSet};
 
 /// The files of those functions, and which of a file's: all exported ones, all methods, or those named.
 pub const PROMISED: [(&str, &[&str]); 10] = [
@@ -43,14 +44,19 @@ fn begins(line: &str) -> Option<&str> {
     let rest = line
         .strip_prefix("pub extern \"C\" fn ")
         .or_else(|| line.strip_prefix("pub fn "))?;
-    rest.split('(').next()
+    rest.split(['(', '<']).next()
 }
 
-/// The lines of each public function's contract.
+/// The clauses of each public function's contract.
 fn contracts(text: &str) -> Vec<(String, String)> {
+    let clauses: BTreeMap<usize, String> = said(text)
+        .into_iter()
+        .filter(|said| said.clause)
+        .map(|said| (said.line, said.text))
+        .collect();
     let mut found: Vec<(String, String)> = Vec::new();
     let mut inside = false;
-    for line in text.lines() {
+    for (number, line) in text.lines().enumerate() {
         if let Some(name) = begins(line) {
             found.push((name.to_string(), String::new()));
             inside = true;
@@ -58,10 +64,9 @@ fn contracts(text: &str) -> Vec<(String, String)> {
         if line.trim() == "{" {
             inside = false;
         }
-        let says =
-            line.trim_start().starts_with("ensures") || line.trim_start().starts_with("requires");
-        if let (true, true, Some((_, contract))) = (inside, says, found.last_mut()) {
-            contract.push_str(line);
+        let clause = clauses.get(&number);
+        if let (true, Some(clause), Some((_, contract))) = (inside, clause, found.last_mut()) {
+            contract.push_str(clause);
         }
     }
     found

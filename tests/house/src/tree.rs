@@ -14,15 +14,16 @@ pub fn read(path: &Path) -> String {
     fs::read_to_string(path).unwrap_or_else(|fault| panic!("{}: {fault}", path.display()))
 }
 
-/// Each listed crate, with all that it names as below it.
+/// Each listed crate, with all that it names as below it. Its name may have a word behind it, as `staticlib`.
 pub fn crates(root: &Path) -> BTreeMap<String, BTreeSet<String>> {
     let text = read(&root.join("crates.txt"));
     let lines = text.lines().filter(|line| !line.starts_with('#'));
     let parts = lines.filter_map(|line| line.split_once(':'));
     parts
-        .map(|(name, below)| {
+        .filter_map(|(own, below)| {
             let below = below.split_whitespace().map(str::to_string);
-            (name.to_string(), below.collect())
+            let name = own.split_whitespace().next()?;
+            Some((name.to_string(), below.collect()))
         })
         .collect()
 }

@@ -48,10 +48,12 @@ fn no_function_on_the_way_to_a_call_divides() {
 }
 
 /// Two crates in small. One function divides in its contract and its comments alone, two others in their bodies.
-const ABOVE: &str = "use below::shares;
+const ABOVE: &str = "use below::{
+    Part, shares,
+};
 // a / b
 fn size(x: u64) -> u64
-    ensures { λ r. ⌜ r ≡ x / 2 ⌝ }
+    ensures { result ≡ x / 2 }
 {
     // x % 2
     let y = below::change(x << 1, p.touches(x));

@@ -36,7 +36,7 @@ pub fn built(of: [&str; 4], folder: &str, name: &str) -> PathBuf {
 /// The program of a source, built under this name in the folder.
 pub fn built_from(source: &str, of: [&str; 4], folder: &str, name: &str) -> PathBuf {
     let program = Path::new(folder).join(name);
-    let library = path("target/staticlib/libexports.a");
+    let library = path("crates/exports/out/libexports.a");
     let mut command = compiler(of);
     command.arg(path(source));
     command.args(["-x", "none"]).arg(library);

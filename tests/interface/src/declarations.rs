@@ -69,7 +69,7 @@ fn declared(text: &str) -> String {
 }
 
 /// What starts an exported function.
-pub const EXPORTED: &str = "#[no_mangle]\npub extern \"C\" fn ";
+pub const EXPORTED: &str = "#[unsafe(no_mangle)]\npub extern \"C\" fn ";
 
 /// The declarations that the exported functions of a crate's source come to.
 pub fn of_source(text: &str) -> Vec<String> {

@@ -28,7 +28,7 @@ const NAMED: [(&str, &str, &str); 24] = [
     ("BOARD_NO_COUNT", "counted/src/lib.rt", "NO_COUNT"),
     ("BOARD_NO_SIZE", "by_bytes/src/lib.rt", "NO_SIZE"),
     ("BOARD_DRAIN_LIMIT", "statements/src/lib.rt", "DRAIN"),
-    ("BOARD_TEXT", "runfile/proofs/Fits.antt", "bufferLength"),
+    ("BOARD_TEXT", "runfile/proofs/Fits.antt", "buffer_length"),
     ("BOARD_AUDIT_POSTINGS", "audit_input/src/lib.rt", "POSTINGS"),
     ("BOARD_NO_KIND", "audit_input/src/lib.rt", "NO_KIND"),
     ("BOARD_AUDIT_NUMBERS", "audit_records/src/lib.rt", "NUMBERS"),

@@ -1,5 +1,5 @@
 // Holds: what the proved programs say on standard error where their input cannot be read or their output not be written.
-// Rests on: interface for paths, and the programs in target/bin, made if they are not there.
+// Rests on: interface for paths, and the programs board and statement, made if they are not there.
 
 use interface::path;
 use std::fs::File;
@@ -8,13 +8,13 @@ use std::process::{Command, Output, Stdio};
 const PROGRAMS: [&str; 2] = ["board", "statement"];
 
 fn program(name: &str) -> Command {
-    let built = path("target/bin").join(name);
+    let folder = path("crates").join(name);
+    let built = folder.join("out").join(name);
     if !built.exists() {
-        let made = Command::new("rt")
-            .args(["check", name])
-            .current_dir(path("."))
-            .output();
-        assert!(made.expect("rt is on the path").status.success());
+        // It is run too, on no input.
+        let made = Command::new("rt").arg("run").current_dir(folder).output();
+        let said = made.expect("rt is on the path").stderr;
+        assert!(built.exists(), "{}", String::from_utf8_lossy(&said));
     }
     Command::new(built)
 }

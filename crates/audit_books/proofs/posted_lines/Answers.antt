@@ -146,8 +146,7 @@ bounds-sheet-b-else-net_of_all c = b_within (goal.at.bounds-sheet-b-else-net_of_
 
 pub loop-i-preserved : goal.loop-i-preserved
 loop-i-preserved c =
-    let at = (goal.at.loop-i-preserved c).In-loop-i in
-    (
+    let at = (goal.at.loop-i-preserved c).In-loop-i in (
       omega (arith, here at),
       elim c.if-net_of_all.branch [
         | then-net_of_all w ↦ w.sheet-is ∙ w.net_all-sheet.ensures ∙ line_nets_all (on_line at) (sym c.net_of_all.ensures ∙ w.if-net_of_all.true)

@@ -70,10 +70,13 @@ shape_of-ahead-then-next-eq0 c =
 
 pub returns-then-next-eq0 : goal.returns-then-next-eq0
 returns-then-next-eq0 c =
-    let read = c.read_posting-next in record { seen_bound = λ u. absurd (true≢false (sym u)); read_says = λ t before rows n. (
+    let read = c.read_posting-next in record {
+      seen_bound = λ u. absurd (true≢false (sym u));
+      read_says = λ t before rows n. (
         λ u. absurd (true≢false (sym u)),
         λ u. going_breaks c.loop-i.invariant c.requires c.index-y.result c.index-y.ensures c.loop-i-test.true read.ensures.value c.if-next-eq0.true t before rows n,
-      ) }
+      );
+    }
 
 pub loop-i-preserved : goal.loop-i-preserved
 loop-i-preserved c =

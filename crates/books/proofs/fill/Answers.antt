@@ -18,13 +18,12 @@ pub put-requires : goal.put-requires
 put-requires c = omega arith
 
 pub loop-k-preserved : goal.loop-k-preserved
-loop-k-preserved c =
-    (
-      omega arith,
-      c.put.auto.out ∙ c.loop-k.invariant.1,
-      c.put.ensures
-          ∙ rw c.loop-k.invariant.2 (next_account c.loop-k.k (figures_on c.args.sheet) c.args.out.now),
-    )
+loop-k-preserved c = (
+  omega arith,
+  c.put.auto.out ∙ c.loop-k.invariant.1,
+  c.put.ensures
+      ∙ rw c.loop-k.invariant.2 (next_account c.loop-k.k (figures_on c.args.sheet) c.args.out.now),
+)
 
 pub shape_of-out : goal.shape_of-out
 shape_of-out c = c.loop-k.invariant.1

@@ -25,8 +25,6 @@ no rows delivered out =
     let n = site_count delivered in
     is_refused (books_all_ok rows delivered out) (numbers_of_sites n blank (table_of rows) (records_of delivered) ++ drop (64 * n) out) out
 
-
-
 -- the test of the slice
 no-places : (delivered : List ℕ) (out : List ℤ) → length out / 64 < site_count delivered → leb (64 * site_count delivered) (length out) ≡ false
 no-places delivered out h = lt-leb (64 * site_count delivered) (length out) (omega arith)
@@ -67,34 +65,43 @@ pub returns-then-sites_ok : goal.returns-then-sites_ok
 unfolding books_all_ok books_all_out
 returns-then-sites_ok c =
     let out = c.args.out.now in
-    let n = site_count (delivered (goal.at.returns-then-sites_ok c).Then-sites_ok) in record { value = (is_done (books_all_ok (rows (goal.at.returns-then-sites_ok c).Then-sites_ok) (delivered (goal.at.returns-then-sites_ok c).Then-sites_ok) out) (numbers_of_sites n blank (table_of (rows (goal.at.returns-then-sites_ok c).Then-sites_ok)) (records_of (delivered (goal.at.returns-then-sites_ok c).Then-sites_ok)) ++ drop (64 * n) out) out
-    (rw (places (delivered (goal.at.returns-then-sites_ok c).Then-sites_ok) out c.if-out-n.false, table-passes (goal.at.returns-then-sites_ok c).Then-sites_ok, sites-pass (goal.at.returns-then-sites_ok c).Then-sites_ok))
-    (c.books_all.ensures
-    ∙ ap (λ (l : List ℤ). l ++ drop (64 * n) out)
-    (sites_read (rows (goal.at.returns-then-sites_ok c).Then-sites_ok) (delivered (goal.at.returns-then-sites_ok c).Then-sites_ok) c.table_of-table.ensures c.blank-opening.ensures c.records_of-records.ensures n))).0; out_after = (is_done (books_all_ok (rows (goal.at.returns-then-sites_ok c).Then-sites_ok) (delivered (goal.at.returns-then-sites_ok c).Then-sites_ok) out) (numbers_of_sites n blank (table_of (rows (goal.at.returns-then-sites_ok c).Then-sites_ok)) (records_of (delivered (goal.at.returns-then-sites_ok c).Then-sites_ok)) ++ drop (64 * n) out) out
-    (rw (places (delivered (goal.at.returns-then-sites_ok c).Then-sites_ok) out c.if-out-n.false, table-passes (goal.at.returns-then-sites_ok c).Then-sites_ok, sites-pass (goal.at.returns-then-sites_ok c).Then-sites_ok))
-    (c.books_all.ensures
-    ∙ ap (λ (l : List ℤ). l ++ drop (64 * n) out)
-    (sites_read (rows (goal.at.returns-then-sites_ok c).Then-sites_ok) (delivered (goal.at.returns-then-sites_ok c).Then-sites_ok) c.table_of-table.ensures c.blank-opening.ensures c.records_of-records.ensures n))).1 }
+    let n = site_count (delivered (goal.at.returns-then-sites_ok c).Then-sites_ok) in record {
+      value = (is_done (books_all_ok (rows (goal.at.returns-then-sites_ok c).Then-sites_ok) (delivered (goal.at.returns-then-sites_ok c).Then-sites_ok) out) (numbers_of_sites n blank (table_of (rows (goal.at.returns-then-sites_ok c).Then-sites_ok)) (records_of (delivered (goal.at.returns-then-sites_ok c).Then-sites_ok)) ++ drop (64 * n) out) out
+          (rw (places (delivered (goal.at.returns-then-sites_ok c).Then-sites_ok) out c.if-out-n.false, table-passes (goal.at.returns-then-sites_ok c).Then-sites_ok, sites-pass (goal.at.returns-then-sites_ok c).Then-sites_ok))
+          (c.books_all.ensures
+          ∙ ap (λ (l : List ℤ). l ++ drop (64 * n) out)
+          (sites_read (rows (goal.at.returns-then-sites_ok c).Then-sites_ok) (delivered (goal.at.returns-then-sites_ok c).Then-sites_ok) c.table_of-table.ensures c.blank-opening.ensures c.records_of-records.ensures n))).0;
+      out_after = (is_done (books_all_ok (rows (goal.at.returns-then-sites_ok c).Then-sites_ok) (delivered (goal.at.returns-then-sites_ok c).Then-sites_ok) out) (numbers_of_sites n blank (table_of (rows (goal.at.returns-then-sites_ok c).Then-sites_ok)) (records_of (delivered (goal.at.returns-then-sites_ok c).Then-sites_ok)) ++ drop (64 * n) out) out
+          (rw (places (delivered (goal.at.returns-then-sites_ok c).Then-sites_ok) out c.if-out-n.false, table-passes (goal.at.returns-then-sites_ok c).Then-sites_ok, sites-pass (goal.at.returns-then-sites_ok c).Then-sites_ok))
+          (c.books_all.ensures
+          ∙ ap (λ (l : List ℤ). l ++ drop (64 * n) out)
+          (sites_read (rows (goal.at.returns-then-sites_ok c).Then-sites_ok) (delivered (goal.at.returns-then-sites_ok c).Then-sites_ok) c.table_of-table.ensures c.blank-opening.ensures c.records_of-records.ensures n))).1;
+    }
 
 pub returns-then-table_ok : goal.returns-then-table_ok
 unfolding books_all_ok
 returns-then-table_ok c =
-    let args = c.args in record { value = (no args.rows.now args.delivered.now args.out.now
-    (rw (
-      places args.delivered.now args.out.now c.if-out-n.false,
-      sym c.table_ok.ensures ∙ c.if-table_ok.true,
-      sym c.sites_ok.ensures ∙ c.if-sites_ok.false,
-    ))).0; out_after = (no args.rows.now args.delivered.now args.out.now
-    (rw (
-      places args.delivered.now args.out.now c.if-out-n.false,
-      sym c.table_ok.ensures ∙ c.if-table_ok.true,
-      sym c.sites_ok.ensures ∙ c.if-sites_ok.false,
-    ))).1 }
+    let args = c.args in record {
+      value = (no args.rows.now args.delivered.now args.out.now
+          (rw (
+            places args.delivered.now args.out.now c.if-out-n.false,
+            sym c.table_ok.ensures ∙ c.if-table_ok.true,
+            sym c.sites_ok.ensures ∙ c.if-sites_ok.false,
+          ))).0;
+      out_after = (no args.rows.now args.delivered.now args.out.now
+          (rw (
+            places args.delivered.now args.out.now c.if-out-n.false,
+            sym c.table_ok.ensures ∙ c.if-table_ok.true,
+            sym c.sites_ok.ensures ∙ c.if-sites_ok.false,
+          ))).1;
+    }
 
 pub returns : goal.returns
 unfolding books_all_ok
 returns c =
-    let args = c.args in record { value = (no args.rows.now args.delivered.now args.out.now
-    (rw (places args.delivered.now args.out.now c.if-out-n.false, sym c.table_ok.ensures ∙ c.if-table_ok.false))).0; out_after = (no args.rows.now args.delivered.now args.out.now
-    (rw (places args.delivered.now args.out.now c.if-out-n.false, sym c.table_ok.ensures ∙ c.if-table_ok.false))).1 }
+    let args = c.args in record {
+      value = (no args.rows.now args.delivered.now args.out.now
+          (rw (places args.delivered.now args.out.now c.if-out-n.false, sym c.table_ok.ensures ∙ c.if-table_ok.false))).0;
+      out_after = (no args.rows.now args.delivered.now args.out.now
+          (rw (places args.delivered.now args.out.now c.if-out-n.false, sym c.table_ok.ensures ∙ c.if-table_ok.false))).1;
+    }

@@ -29,24 +29,30 @@ all_words matrix t m = take_all words (conflict_set matrix t m).words (omega (ar
 pub returns-then-rows-m : goal.returns-then-rows-m
 unfolding conflict_set_ok
 returns-then-rows-m c =
-    let args = c.args in record { value = (no args.matrix args.rows.now args.m args.out.now
-    (rw (sym c.whole.ensures ∙ c.if-whole.true, le-ltb args.m (row_count args.rows.now) c.if-rows-m.true))).0; out_after = (no args.matrix args.rows.now args.m args.out.now
-    (rw (sym c.whole.ensures ∙ c.if-whole.true, le-ltb args.m (row_count args.rows.now) c.if-rows-m.true))).1 }
+    let args = c.args in record {
+      value = (no args.matrix args.rows.now args.m args.out.now
+          (rw (sym c.whole.ensures ∙ c.if-whole.true, le-ltb args.m (row_count args.rows.now) c.if-rows-m.true))).0;
+      out_after = (no args.matrix args.rows.now args.m args.out.now
+          (rw (sym c.whole.ensures ∙ c.if-whole.true, le-ltb args.m (row_count args.rows.now) c.if-rows-m.true))).1;
+    }
 
 pub returns-then-out-lt-WORDS : goal.returns-then-out-lt-WORDS
 unfolding conflict_set_ok
 returns-then-out-lt-WORDS c =
-    let args = c.args in record { value = (no args.matrix args.rows.now args.m args.out.now
-    (rw (
-      sym c.whole.ensures ∙ c.if-whole.true,
-      lt-ltb args.m (row_count args.rows.now) c.if-rows-m.false,
-      lt-leb words (length args.out.now) c.if-out-lt-WORDS.true,
-    ))).0; out_after = (no args.matrix args.rows.now args.m args.out.now
-    (rw (
-      sym c.whole.ensures ∙ c.if-whole.true,
-      lt-ltb args.m (row_count args.rows.now) c.if-rows-m.false,
-      lt-leb words (length args.out.now) c.if-out-lt-WORDS.true,
-    ))).1 }
+    let args = c.args in record {
+      value = (no args.matrix args.rows.now args.m args.out.now
+          (rw (
+            sym c.whole.ensures ∙ c.if-whole.true,
+            lt-ltb args.m (row_count args.rows.now) c.if-rows-m.false,
+            lt-leb words (length args.out.now) c.if-out-lt-WORDS.true,
+          ))).0;
+      out_after = (no args.matrix args.rows.now args.m args.out.now
+          (rw (
+            sym c.whole.ensures ∙ c.if-whole.true,
+            lt-ltb args.m (row_count args.rows.now) c.if-rows-m.false,
+            lt-leb words (length args.out.now) c.if-out-lt-WORDS.true,
+          ))).1;
+    }
 
 pub returns-then-whole : goal.returns-then-whole
 unfolding conflict_set_ok conflict_set_out
@@ -54,25 +60,28 @@ returns-then-whole c =
     let args = c.args in
     let rows = args.rows.now in
     let out = args.out.now in
-    let set = conflict_set args.matrix (table_of rows) args.m in record { value = (is_done (conflict_set_ok rows args.m out) (set.words ++ drop words out) out
-    (rw (
-      sym c.whole.ensures ∙ c.if-whole.true,
-      lt-ltb args.m (row_count rows) c.if-rows-m.false,
-      le-leb words (length out) c.if-out-lt-WORDS.false,
-    ))
-    (c.put_words.ensures
-    ∙ ap (λ (l : List ℕ). l ++ drop words out)
-    (ap (λ (s : Set). take words s.words) (c.conflict_set-set.ensures ∙ ap (λ (t : Table). conflict_set args.matrix t args.m) c.table_of-table.ensures)
-    ∙ all_words args.matrix (table_of rows) args.m))).0; out_after = (is_done (conflict_set_ok rows args.m out) (set.words ++ drop words out) out
-    (rw (
-      sym c.whole.ensures ∙ c.if-whole.true,
-      lt-ltb args.m (row_count rows) c.if-rows-m.false,
-      le-leb words (length out) c.if-out-lt-WORDS.false,
-    ))
-    (c.put_words.ensures
-    ∙ ap (λ (l : List ℕ). l ++ drop words out)
-    (ap (λ (s : Set). take words s.words) (c.conflict_set-set.ensures ∙ ap (λ (t : Table). conflict_set args.matrix t args.m) c.table_of-table.ensures)
-    ∙ all_words args.matrix (table_of rows) args.m))).1 }
+    let set = conflict_set args.matrix (table_of rows) args.m in record {
+      value = (is_done (conflict_set_ok rows args.m out) (set.words ++ drop words out) out
+          (rw (
+            sym c.whole.ensures ∙ c.if-whole.true,
+            lt-ltb args.m (row_count rows) c.if-rows-m.false,
+            le-leb words (length out) c.if-out-lt-WORDS.false,
+          ))
+          (c.put_words.ensures
+          ∙ ap (λ (l : List ℕ). l ++ drop words out)
+          (ap (λ (s : Set). take words s.words) (c.conflict_set-set.ensures ∙ ap (λ (t : Table). conflict_set args.matrix t args.m) c.table_of-table.ensures)
+          ∙ all_words args.matrix (table_of rows) args.m))).0;
+      out_after = (is_done (conflict_set_ok rows args.m out) (set.words ++ drop words out) out
+          (rw (
+            sym c.whole.ensures ∙ c.if-whole.true,
+            lt-ltb args.m (row_count rows) c.if-rows-m.false,
+            le-leb words (length out) c.if-out-lt-WORDS.false,
+          ))
+          (c.put_words.ensures
+          ∙ ap (λ (l : List ℕ). l ++ drop words out)
+          (ap (λ (s : Set). take words s.words) (c.conflict_set-set.ensures ∙ ap (λ (t : Table). conflict_set args.matrix t args.m) c.table_of-table.ensures)
+          ∙ all_words args.matrix (table_of rows) args.m))).1;
+    }
 
 pub returns : goal.returns
 unfolding conflict_set_ok

@@ -34,13 +34,16 @@ pub returns-then-has_room : goal.returns-then-has_room
 unfolding posted_on
 returns-then-has_room c =
     let args = c.args in
-    let l = args.figures.now in record { value = (is_done (roomy (figures_at l)) (after args.p args.account l) l
-    (sym (tested (goal.at.returns-then-has_room c).After-has_room) ∙ c.if-has_room.true)
-    (c.put.ensures
-    ∙ ap (λ (t : Figures). four t ++ drop 4 l) (c.effect_on-t.ensures ∙ ap (effect args.p args.account) (read (goal.at.returns-then-has_room c).After-settled-1)))).0; figures_after = (is_done (roomy (figures_at l)) (after args.p args.account l) l
-    (sym (tested (goal.at.returns-then-has_room c).After-has_room) ∙ c.if-has_room.true)
-    (c.put.ensures
-    ∙ ap (λ (t : Figures). four t ++ drop 4 l) (c.effect_on-t.ensures ∙ ap (effect args.p args.account) (read (goal.at.returns-then-has_room c).After-settled-1)))).1 }
+    let l = args.figures.now in record {
+      value = (is_done (roomy (figures_at l)) (after args.p args.account l) l
+          (sym (tested (goal.at.returns-then-has_room c).After-has_room) ∙ c.if-has_room.true)
+          (c.put.ensures
+          ∙ ap (λ (t : Figures). four t ++ drop 4 l) (c.effect_on-t.ensures ∙ ap (effect args.p args.account) (read (goal.at.returns-then-has_room c).After-settled-1)))).0;
+      figures_after = (is_done (roomy (figures_at l)) (after args.p args.account l) l
+          (sym (tested (goal.at.returns-then-has_room c).After-has_room) ∙ c.if-has_room.true)
+          (c.put.ensures
+          ∙ ap (λ (t : Figures). four t ++ drop 4 l) (c.effect_on-t.ensures ∙ ap (effect args.p args.account) (read (goal.at.returns-then-has_room c).After-settled-1)))).1;
+    }
 
 pub returns : goal.returns
 unfolding posted_on

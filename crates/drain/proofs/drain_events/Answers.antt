@@ -34,8 +34,7 @@ bounds-masks-k c = at-cell (goal.at.bounds-masks-k c).In-loop-k
 
 pub loop-k-preserved-then-w-eq0 : goal.loop-k-preserved-then-w-eq0
 loop-k-preserved-then-w-eq0 c =
-    let at = c.loop-k in
-    (
+    let at = c.loop-k in (
       at.invariant.0,
       at.invariant.1 ∙ cell_step c.loop-form.masks c.up_mask-up.result at.k (at-cell (goal.at.loop-k-preserved-then-w-eq0 c).In-loop-k) ∙ rw (eq-eqb _ _ c.if-w-eq0.true),
       next_cell _ _ _ _ at.invariant.2 c.search-test.true c.loop-k-test.true,

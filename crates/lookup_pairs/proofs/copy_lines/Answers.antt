@@ -60,8 +60,7 @@ copy_line-requires c =
 
 pub loop-i-preserved : goal.loop-i-preserved
 loop-i-preserved c =
-    let at = (goal.at.loop-i-preserved c).After-wide-account in
-    (
+    let at = (goal.at.loop-i-preserved c).After-wide-account in (
       omega (arith, here at),
       c.copy_line.auto.out ∙ c.loop-i.invariant.1,
       line_copied (figures at) (pairs at) c.requires.1 (within at) (i at) (here at) _ _

@@ -1,6 +1,5 @@
 -- `first_sites` meets its contract. The loop's invariant: the first j of the mask's room below p are found.
 -- Assumes nothing.
-use Prim.Native.Nat.{◌-◌}
 use mathlib.Core.Path.{◌≡◌, refl, ◌∙◌}
 use native.Mathlib.Numerals.{add-one}
 use native.Mathlib.Omega.{arith}

@@ -1,6 +1,6 @@
 -- `first_sites` meets its contract. The loop's invariant: the first j of the mask's room below p are found.
 -- Assumes nothing.
-use Prim.Native.Nat.{◌≤◌, ◌-◌}
+use Prim.Native.Nat.{◌≤◌}
 use mathlib.Core.Path.{◌≡◌}
 use Rattle.masks.specs.SiteMasks.{room, first_sites}
 use Rattle.masks.proofs.first_sites.Given as goal

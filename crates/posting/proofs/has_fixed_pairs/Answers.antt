@@ -1,6 +1,6 @@
 -- `has_fixed_pairs` meets its contract. The loop's invariant: the matrix says yes for the fixed ones of the first n pairs.
 -- Assumes nothing.
-use Prim.Native.Nat.{◌-◌, ◌/◌, ◌%◌}
+use Prim.Native.Nat.{◌/◌, ◌%◌}
 use mathlib.Core.Path.{sym, ◌∙◌}
 use native.Mathlib.Omega.{arith}
 use borrow.Author.Rules.{rules}

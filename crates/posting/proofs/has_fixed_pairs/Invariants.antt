@@ -1,6 +1,6 @@
 -- `has_fixed_pairs` meets its contract. The loop's invariant: the matrix says yes for the fixed ones of the first n pairs.
 -- Assumes nothing.
-use Prim.Native.Nat.{◌≤◌, ◌-◌}
+use Prim.Native.Nat.{◌≤◌}
 use Rattle.posting.specs.Kinds.{pair_ok}
 use Rattle.posting.proofs.Pairs.{Passed}
 use Rattle.posting.proofs.has_fixed_pairs.Given as goal

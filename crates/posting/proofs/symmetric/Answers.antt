@@ -1,6 +1,5 @@
 -- `symmetric` meets its contract. The loop's invariant: the first n pairs are as their turned ones.
 -- Assumes nothing.
-use Prim.Native.Nat.{◌-◌}
 use mathlib.Core.Path.{sym, ap₂, ◌∙◌}
 use mathlib.Core.Bool.{beq}
 use native.Mathlib.Omega.{arith}

@@ -1,6 +1,6 @@
 -- `symmetric` meets its contract. The loop's invariant: the first n pairs are as their turned ones.
 -- Assumes nothing.
-use Prim.Native.Nat.{◌≤◌, ◌-◌}
+use Prim.Native.Nat.{◌≤◌}
 use Rattle.posting.specs.Kinds.{turned_alike}
 use Rattle.posting.proofs.Pairs.{Passed}
 use Rattle.posting.proofs.symmetric.Given as goal

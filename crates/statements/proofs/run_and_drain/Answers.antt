@@ -31,8 +31,6 @@ run_events-requires c =
     let p = c.requires in
     (fresh_right, rw (fresh_shown g.setup) p.0, omega arith, omega (arith, c.event_count-events.ensures, p.2, length-replicate {A = ℕ} 4096 0))
 
-
-
 -- ---- what the run has left, and the drain after it
 abbrev setup : After-run_events → Setup
 setup c = c.args.setup

@@ -1,6 +1,6 @@
 -- `contains` meets its contract. The loop's invariant: the answer is that of the places from i on.
 -- Assumes nothing.
-use Prim.Native.Nat.{◌≤◌, ◌-◌}
+use Prim.Native.Nat.{◌≤◌}
 use mathlib.Core.Path.{◌≡◌}
 use Rattle.sets.specs.Sets.{capacity}
 use Rattle.posting.specs.Records.{contains}

@@ -1,6 +1,6 @@
 -- `conflict_set` meets its contract. The loop's invariant: the set is that of the offered numbers below x that conflict with m.
 -- Assumes nothing.
-use Prim.Native.Nat.{ℕ, ◌-◌}
+use Prim.Native.Nat.{ℕ}
 use mathlib.Core.Path.{◌≡◌, ap, ◌∙◌}
 use native.Mathlib.Numerals.{add-one}
 use native.Mathlib.Omega.{arith}

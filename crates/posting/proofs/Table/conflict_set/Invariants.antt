@@ -1,6 +1,6 @@
 -- `conflict_set` meets its contract. The loop's invariant: the set is that of the offered numbers below x that conflict with m.
 -- Assumes nothing.
-use Prim.Native.Nat.{ℕ, ◌≤◌, ◌-◌}
+use Prim.Native.Nat.{ℕ, ◌≤◌}
 use mathlib.Core.Path.{◌≡◌}
 use mathlib.Core.Bool.{Bool, ◌&&◌}
 use Rattle.sets.specs.Words.{collect}

@@ -28,8 +28,6 @@ run_events-requires c =
     let p = c.requires in
     (fresh_right, rw (fresh_shown g.setup) p.0, omega arith, omega (arith, c.event_count-count.ensures, p.1))
 
-
-
 -- ---- what the run has left
 abbrev setup : After-run_events → Setup
 setup c = c.args.setup

@@ -1,6 +1,5 @@
 -- `is_empty` meets its contract. The loop's invariant: the answer is that of the words from i on.
 -- Assumes nothing.
-use Prim.Native.Nat.{◌-◌}
 use mathlib.Core.Path.{◌≡◌, refl, sym, ◌∙◌}
 use native.Mathlib.Omega.{arith}
 use lib.ListN.{length}

@@ -1,6 +1,6 @@
 -- `is_empty` meets its contract. The loop's invariant: the answer is that of the words from i on.
 -- Assumes nothing.
-use Prim.Native.Nat.{◌≤◌, ◌-◌}
+use Prim.Native.Nat.{◌≤◌}
 use mathlib.Core.Path.{◌≡◌}
 use lib.ListN.{drop}
 use Rattle.sets.specs.Words.{is_empty}

@@ -1,6 +1,5 @@
 -- `join` meets its contract. The loop's invariant: the first i words are combined, the rest are as they were.
 -- Assumes nothing.
-use Prim.Native.Nat.{◌-◌}
 use mathlib.Core.Path.{◌≡◌, refl, ap, ◌∙◌}
 use native.Mathlib.Omega.{arith}
 use lib.ListN.{length}

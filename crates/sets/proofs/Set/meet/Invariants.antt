@@ -1,6 +1,6 @@
 -- `meet` meets its contract. The loop's invariant: the first i words are combined, the rest are as they were.
 -- Assumes nothing.
-use Prim.Native.Nat.{◌≤◌, ◌-◌}
+use Prim.Native.Nat.{◌≤◌}
 use mathlib.Core.Path.{◌≡◌}
 use lib.Bits.{bit_and}
 use Rattle.sets.specs.Sets.{words}

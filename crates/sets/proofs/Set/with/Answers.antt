@@ -1,6 +1,5 @@
 -- `with` meets its contract. The loop's invariant: m is in, if its word is among the first i; a number past the capacity has none.
 -- Assumes nothing.
-use Prim.Native.Nat.{◌-◌}
 use mathlib.Core.Path.{◌≡◌, ap, ◌∙◌}
 use native.Mathlib.Omega.{arith}
 use lib.ListN.{length}

@@ -1,6 +1,6 @@
 -- `with` meets its contract. The loop's invariant: m is in, if its word is among the first i; a number past the capacity has none.
 -- Assumes nothing.
-use Prim.Native.Nat.{◌≤◌, ◌-◌}
+use Prim.Native.Nat.{◌≤◌}
 use mathlib.Core.Path.{◌≡◌}
 use Rattle.sets.specs.Sets.{words}
 use Rattle.sets.proofs.Loops.{first_with}
