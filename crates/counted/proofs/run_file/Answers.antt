@@ -6,10 +6,8 @@ use Rattle.counted.proofs.run_file.Goals as goal
 
 pub returns-in-Written : goal.returns-in-Written
 returns-in-Written c =
-    let (answer, (slice, said)) = c.run_file-answer.ensures in
-    record { value = ap count_of (sym c.in-Written.is ∙ answer); out_after = slice }
+    record { value = ap count_of (sym c.in-Written.is ∙ c.run_file-answer.ensures.value); out_after = c.run_file-answer.ensures.out_after }
 
 pub returns-in-Short : goal.returns-in-Short
 returns-in-Short c =
-    let (answer, (slice, said)) = c.run_file-answer.ensures in
-    record { value = ap count_of (sym c.in-Short.is ∙ answer); out_after = slice }
+    record { value = ap count_of (sym c.in-Short.is ∙ c.run_file-answer.ensures.value); out_after = c.run_file-answer.ensures.out_after }
