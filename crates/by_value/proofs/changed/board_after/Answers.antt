@@ -18,6 +18,6 @@ returns c =
     let count = c.event_count-count in
     let ran = c.run_events in
     let l = ran.new in
-    let d = arrays l.0 l.1.0 l.1.1.0 l.1.1.1.0 l.1.1.1.1.0 l.1.1.1.1.1.0 l.1.1.1.1.1.1.0 in
+    let d = arrays l.words l.counts l.bytes l.amounts l.masks l.good l.carried in
     c.board_of.ensures
-    ∙ fresh_run c.args.setup c.args.input.now (replicate 4096 0) count.result count.ensures d l.1.1.1.1.1.1.1.1.1.1.1.0 ran.ensures.carried_after
+    ∙ fresh_run c.args.setup c.args.input.now (replicate 4096 0) count.result count.ensures d l.numbers ran.ensures.carried_after
