@@ -32,8 +32,11 @@ pub returns-then-has_site : goal.returns-then-has_site
 returns-then-has_site c =
     let args = c.args in
     let so : has_bit args.named args.p ≡ true = sym c.has_site.ensures ∙ c.if-has_site.true in
-    let a = arrays [] args.counts.now args.bytes.now args.amounts.now [] [] [] in record { value = rw so c.pass_at-passed.ensures.places_value; figures_after = rw so (sheet_filled (books blank (table_of a) (numbers_of (record_in a args.p))) c.pass_at-passed.result.sheet c.pass_at-passed.ensures.sheet_value args.p args.figures.now
-          c.fill.new.out c.fill.ensures) }
+    let a = arrays [] args.counts.now args.bytes.now args.amounts.now [] [] [] in record {
+      value = rw so c.pass_at-passed.ensures.places_value;
+      figures_after = rw so (sheet_filled (books blank (table_of a) (numbers_of (record_in a args.p))) c.pass_at-passed.result.sheet c.pass_at-passed.ensures.sheet_value args.p args.figures.now
+          c.fill.new.out c.fill.ensures);
+    }
 
 pub returns : goal.returns
 returns c =
