@@ -6,7 +6,7 @@ use crate::names::{uses, Source};
 use std::collections::{BTreeMap, BTreeSet};
 
 /// The files of those functions, and which of a file's: all exported ones, all methods, or those named.
-pub const PROMISED: [(&str, &[&str]); 10] = [
+pub const PROMISED: [(&str, &[&str]); 9] = [
     ("crates/exports/src/lib.rt", &[]),
     (
         "crates/machine/src/service.rt",
@@ -16,14 +16,18 @@ pub const PROMISED: [(&str, &[&str]); 10] = [
     ("crates/whole_board/src/opening.rt", &["start"]),
     ("crates/whole_board/src/quiet.rt", &["is_quiet"]),
     ("crates/whole_board/src/figures.rt", &["books", "books_all"]),
-    ("crates/lookups/src/lib.rt", &["look_up"]),
     ("crates/drain/src/lib.rt", &["drain"]),
     ("crates/runfile/src/run.rt", &["run_file"]),
     ("crates/statements/src/lib.rt", &["statement"]),
 ];
 
 /// Exported for tests alone: a board with one number changed takes a call, or is looked up. No caller of the service need believe it.
-pub const FOR_TESTS: [&str; 2] = ["board_call_changed", "board_lookup_changed"];
+/// Nor yet what balances are looked up by: docs/PORT.md says what of it is unfinished.
+pub const FOR_TESTS: [&str; 3] = [
+    "board_call_changed",
+    "board_lookup_changed",
+    "board_run_lookup",
+];
 
 /// The audit of records that come from elsewhere. It takes part in no step of the service, and the service in none of it.
 pub const AUDIT: [&str; 2] = ["board_audit_records", "board_audit_figures"];
