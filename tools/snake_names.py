@@ -138,8 +138,6 @@ def main(argv):
         if new != text:
             open(path, "w", encoding="utf-8").write(new)
             changed += 1
-    with open("/tmp/snake-names.txt", "w", encoding="utf-8") as f:
-        f.writelines(f"{n} {s}\n" for n, s in sorted(turned.items()))
     print(f"{changed} files changed")
     return 0
 
