@@ -1,29 +1,25 @@
 -- The flat arrays of a board at work, and what is read from a slot of sets and stored there.
 -- Rests on Layout, on flight for the arrays of what is in flight, on steps for cuts.
-use Rattle.std.specs.Prelude.{ℕ, ◌+◌, ◌*◌, ◌-◌, ◌/◌, ◌%◌, ◌^◌, Bool, List, get_or, set}
+use Rattle.std.specs.Prelude.{ℕ, ◌+◌, ◌*◌, ◌-◌, ◌/◌, ◌%◌, ◌^◌, Bool, List, get_or, set, replicate}
 use Rattle.std.proofs.lemmas.List.Edits.{sets}
 use Rattle.std.specs.Int.Bits.{bit_or, bit_and}
 use Rattle.sets.specs.declared.Set.{Set}
 use Rattle.sets.specs.Masks.{has_bit}
-use Rattle.sets.specs.Sets.{words, of_words}
-use Rattle.flight.specs.Flights.{words_from}
+use Rattle.sets.specs.Sets.{words, capacity, of_words}
+use Rattle.flight.specs.Flights.{cells, pairs, words_from}
 use Rattle.steps.specs.declared.Cut.{Cut}
 use Rattle.steps.specs.Cuts.{down_after}
-use Rattle.arrays.specs.Layout.{down_at}
+use Rattle.arrays.specs.declared.Arrays.{Arrays}
+use Rattle.arrays.specs.Layout.{sets_long, counts_long, bytes_long, down_at}
 
--- the arrays: words of sets, counts, bytes, the amounts of postings, and the three of what is in flight
-pub record Arrays : Type 0 where
-  pub sets : List ℕ
-  pub counts : List ℕ
-  pub bytes : List ℕ
-  pub amounts : List ℕ
-  pub masks : List ℕ
-  pub good : List ℕ
-  pub carried : List ℕ
-
+-- the arrays of a board at work
 abbrev pub arrays : List ℕ → List ℕ → List ℕ → List ℕ → List ℕ → List ℕ → List ℕ → Arrays
 arrays sets counts bytes amounts masks good carried =
     record { sets = sets; counts = counts; bytes = bytes; amounts = amounts; masks = masks; good = good; carried = carried }
+
+-- nothing but zeros
+abbrev pub zeros : Arrays
+zeros = arrays (replicate sets_long 0) (replicate counts_long 0) (replicate bytes_long 0) (replicate capacity 0) (replicate cells 0) (replicate pairs 0) (replicate (pairs * words) 0)
 
 -- the arrays with one of them changed
 abbrev pub with_sets : Arrays → List ℕ → Arrays

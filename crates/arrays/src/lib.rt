@@ -6,8 +6,9 @@ ghost use Rattle.std.specs.Prelude.{◌<◌, ◌≡◌};
 ghost use Rattle.sets.specs.Sets.{capacity};
 ghost use Rattle.site.specs.Sites.{sites};
 ghost use Rattle.arrays.specs.Layout.{slots};
-ghost use Rattle.arrays.specs.Arrays.{slot_set, storing, has_in, adding, dropping, marked};
+ghost use Rattle.arrays.specs.Arrays.{zeros, slot_set, storing, has_in, adding, dropping, marked};
 
+use flight::{LOADS, MASKS, PAIRS};
 use masks::with_site;
 use posting::{ACCOUNTS, KINDS};
 use sets::{POSTINGS, Set, WORDS};
@@ -84,6 +85,37 @@ pub const GOOD: usize = HEARD + SITES * POSTINGS;
 pub const RECORD: usize = GOOD + SITES * POSTINGS;
 
 pub const BYTES: usize = RECORD + SITES * POSTINGS;
+
+// ---- the board
+
+// A board at work: words of sets by slot, counts, bytes, the amount of each posting, and what is in flight (crate flight).
+#[derive(Drop)]
+pub struct Arrays {
+    pub sets: [u64; SETS],
+    pub counts: [usize; COUNTS],
+    pub bytes: [u8; BYTES],
+    pub amounts: [u32; POSTINGS],
+    pub masks: [u8; MASKS],
+    pub good: [u8; PAIRS],
+    pub carried: [u64; LOADS],
+}
+
+impl Arrays {
+    // Arrays of zeros.
+    pub fn empty() -> Arrays
+        ensures { result ≡ zeros }
+    {
+        Arrays {
+            sets: [0; SETS],
+            counts: [0; COUNTS],
+            bytes: [0; BYTES],
+            amounts: [0; POSTINGS],
+            masks: [0; MASKS],
+            good: [0; PAIRS],
+            carried: [0; LOADS],
+        }
+    }
+}
 
 // ---- sets where they lie
 

@@ -15,13 +15,13 @@ use Rattle.site.specs.declared.Setup.{Setup}
 use Rattle.site.specs.Sends.{FIRST}
 use Rattle.flight.specs.Flights.{sending_to}
 use Rattle.steps.specs.declared.Cut.{Cut}
-use Rattle.steps.specs.declared.Cut.TheVariants.{Whole, After}
 use Rattle.steps.specs.CauseLists.{first_cause, offer_causes}
 use Rattle.steps.specs.Cuts.{sites_to}
 use Rattle.arrays.specs.Layout.{pool_slot, count_at, logged_at, place_at, down_at, log_at}
-use Rattle.arrays.specs.Arrays.{Arrays, arrays, with_sets, with_counts, with_bytes, has_in, dropping, byte, marked}
+use Rattle.arrays.specs.declared.Arrays.{Arrays}
+use Rattle.arrays.specs.Arrays.{arrays, with_sets, with_counts, with_bytes, has_in, dropping, byte, marked}
 use Rattle.index.specs.Index.{indexing}
-use Rattle.delivery.specs.Delivery.{Laid, laid, delivered_entry}
+use Rattle.delivery.specs.Delivery.{Laid, laid, with_laid}
 use Rattle.flat.specs.Flat.{Flat, flat, cut_cause, site_cause, entered, flat_offer, logging, flat_order, entry_delivered_to, flat_read, flat_crash}
 use Rattle.flat.proofs.Ways.{is_refused, goes_on}
 
@@ -88,21 +88,13 @@ module _ (a : Arrays) (m : ℕ) where
     order_absent f = rw (lt-ltb m capacity below, sym is-there, f)
 
     pub order_done :
-        (sets counts bytes : List ℕ) → there ≡ true → sets ≡ dropping a.sets pool_slot m
-        → with_bytes (with_counts (with_sets a sets) counts) bytes ≡ logging (with_sets a sets) m
-        → flat 0 (with_bytes (with_counts (with_sets a sets) counts) bytes) ≡ flat_order a m
+        (sets : List ℕ) (after : Arrays) → there ≡ true → sets ≡ dropping a.sets pool_slot m → after ≡ logging (with_sets a sets) m
+        → flat 0 after ≡ flat_order a m
     unfolding flat_order
-    order_done sets counts bytes t es is =
+    order_done sets after t es is =
         rw (lt-ltb m capacity below, sym is-there, t) (ap (flat 0) is ∙ ap (λ (x : List ℕ). flat 0 (logging (with_sets a x) m)) es)
 
 -- ---- read
-
--- delivery of an entry at a site, whole and cut
-pub reads_whole : (old new : Laid) (p m : ℕ) (cut : Cut) → cut ≡ Whole → new ≡ delivered_entry old p m → new ≡ entry_delivered_to old p m cut
-reads_whole old new p m cut e is = rw e is
-
-pub reads_cut : (old : Laid) (p m j : ℕ) (cut : Cut) → cut ≡ After j → old ≡ entry_delivered_to old p m cut
-reads_cut old p m j cut e = rw e
 
 module _ (setup : Setup) (a : Arrays) (site : ℕ) (cut : Cut) (why : ℕ) (is-why : why ≡ site_cause setup a.bytes site) where
   pub read_stopped : why ≢ 0 → flat why a ≡ flat_read setup a site cut
@@ -134,14 +126,13 @@ module _ (setup : Setup) (a : Arrays) (site : ℕ) (cut : Cut) (why : ℕ) (is-w
     moved = set a.counts (place_at site) (place + 1)
 
     pub read_done :
-        (sets counts down bytes : List ℕ) → late ≡ 0 → down ≡ marked a.bytes site cut
-        → laid sets counts bytes ≡ entry_delivered_to (laid a.sets moved down) site entry cut
-        → flat 0 (with_sets (with_counts (with_bytes a bytes) counts) sets) ≡ flat_read setup a site cut
+        (down : List ℕ) (after : Arrays) → late ≡ 0 → down ≡ marked a.bytes site cut
+        → after ≡ with_laid (with_counts (with_bytes a down) moved) (entry_delivered_to (laid a.sets moved down) site entry cut)
+        → flat 0 after ≡ flat_read setup a site cut
     unfolding flat_read
-    read_done sets counts down bytes z ed is =
-        let now : laid sets counts bytes ≡ entry_delivered_to (laid a.sets moved (marked a.bytes site cut)) site entry cut =
-        is ∙ ap (λ (x : List ℕ). entry_delivered_to (laid a.sets moved x) site entry cut) ed in
-        rw (lt-leb ends place more) (ap read now ∙ goes_on late _ is-late a _ z ∙ goes_on why _ is-why a _ acts)
+    read_done down after z ed is =
+        let all = ap (λ (x : List ℕ). read (entry_delivered_to (laid a.sets moved x) site entry cut)) ed in
+        rw (lt-leb ends place more) (ap (flat 0) is ∙ all ∙ goes_on late _ is-late a _ z ∙ goes_on why _ is-why a _ acts)
 
 -- ---- crash
 

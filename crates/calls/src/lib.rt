@@ -2,28 +2,27 @@
 // Rests on flat.
 #![tactic(auto)]
 
-ghost use Rattle.std.specs.Prelude.{ℕ, ◌<◌, ◌≤◌, ◌≡◌, List, set};
+ghost use Rattle.std.specs.Prelude.{◌<◌, ◌≤◌, ◌≡◌};
 ghost use Rattle.sets.specs.Sets.{capacity};
 ghost use Rattle.site.specs.Sites.{sites};
-ghost use Rattle.arrays.specs.Arrays.{arrays};
-ghost use Rattle.delivery.specs.Delivery.{laid};
+ghost use Rattle.delivery.specs.Delivery.{laid_of, with_laid};
+ghost use Rattle.steps.specs.Refusals.{answer_number};
 ghost use Rattle.flat.specs.Flat.{flat, entered, flat_offer, logging, flat_order, entry_delivered_to, flat_read, flat_crash, LogFits};
 
 use arrays::messages::send;
 use arrays::{
-    BYTES, COUNTS, DOWN, FROM, INTO, KIND, LOG, LOGGED, OFFERED, OWNER, PLACE, POOL, SETS,
-    drop_from, has_in, mark,
+    Arrays, BYTES, DOWN, FROM, INTO, KIND, LOG, LOGGED, OFFERED, OWNER, PLACE, POOL, drop_from,
+    has_in, mark,
 };
 use delivery::deliver_entry;
-use flight::MASKS;
 use index::enter;
 use masks::{every_site, with_site};
 use posting::Posting;
 use sets::POSTINGS;
 use site::Setup;
-use steps::Cut;
 use steps::cuts::sites_to;
-use steps::refusals::{cut_refusal, offer_refusal, site_refusal};
+use steps::refusals::{cut_allowed, offer_fits, site_acts};
+use steps::{Cut, Refusal};
 
 // A posting's row but for its amount.
 fn enter_row(bytes: &mut [u8; BYTES], m: usize, posting: Posting)
@@ -38,11 +37,7 @@ fn enter_row(bytes: &mut [u8; BYTES], m: usize, posting: Posting)
 
 // Offer: the posting gets its number; FIRST goes to all n sites.
 pub fn offer(
-    words: &mut [u64; SETS],
-    counts: &mut [usize; COUNTS],
-    bytes: &mut [u8; BYTES],
-    amounts: &mut [u32; POSTINGS],
-    masks: &mut [u8; MASKS],
+    board: &mut Arrays,
     setup: Setup,
     site: usize,
     kind: u8,
@@ -50,146 +45,104 @@ pub fn offer(
     other: u8,
     amount: u32,
     cut: Cut,
-) -> u8
+) -> Result<(), Refusal>
     requires { setup.n ≤ sites }
-    ensures { (good carried : List ℕ) → flat result (arrays words.new counts.new bytes.new amounts.new masks.new good carried) ≡ flat_offer setup (arrays words.old counts.old bytes.old amounts.old masks.old good carried) site kind account other amount cut }
+    ensures { flat (answer_number result) board.new ≡ flat_offer setup board.old site kind account other amount cut }
 {
-    let down = bytes[DOWN];
-    let why = site_refusal(setup.n, down, site);
-    if why != 0 {
-        return why;
-    }
+    let down = board.bytes[DOWN];
+    site_acts(setup.n, down, site)?;
     let posting = Posting {
         owner: site as u8,
-        kind: kind,
+        kind,
         a: account,
         b: other,
-        amount: amount,
+        amount,
     };
-    let m = counts[OFFERED];
-    let no = offer_refusal(posting, m);
-    if no != 0 {
-        return no;
-    }
+    let m = board.counts[OFFERED];
+    offer_fits(posting, m)?;
     let all = every_site(setup.n);
-    let late = cut_refusal(setup.f, down, all, cut);
-    if late != 0 {
-        return late;
-    }
+    cut_allowed(setup.f, down, all, cut)?;
     let receivers = sites_to(all, cut);
-    counts[OFFERED] = m + 1;
-    amounts[m] = amount;
-    enter_row(bytes, m, posting);
-    enter(words, m, kind, account, other);
-    send(masks, 0, m, site, receivers);
-    mark(bytes, site, cut);
-    0
+    board.counts[OFFERED] = m + 1;
+    board.amounts[m] = amount;
+    enter_row(&mut board.bytes, m, posting);
+    enter(&mut board.sets, m, kind, account, other);
+    send(&mut board.masks, 0, m, site, receivers);
+    mark(&mut board.bytes, site, cut);
+    Ok(())
 }
 
 // m at the end of the log; a full log stays.
-fn append_log(counts: &mut [usize; COUNTS], bytes: &mut [u8; BYTES], m: usize)
+fn append_log(board: &mut Arrays, m: usize)
     requires { m < capacity }
-    ensures { (sets amounts masks good carried : List ℕ) → arrays sets counts.new bytes.new amounts masks good carried ≡ logging (arrays sets counts.old bytes.old amounts masks good carried) m }
+    ensures { board.new ≡ logging board.old m }
 {
-    let count = counts[LOGGED];
+    let count = board.counts[LOGGED];
     if POSTINGS <= count {
         return;
     }
-    counts[LOGGED] = count + 1;
-    bytes[LOG + count] = m as u8;
+    board.counts[LOGGED] = count + 1;
+    board.bytes[LOG + count] = m as u8;
 }
 
 // Order: the oracle moves m's entry from the pool to the end of the log.
-pub fn order(
-    words: &mut [u64; SETS],
-    counts: &mut [usize; COUNTS],
-    bytes: &mut [u8; BYTES],
-    m: usize,
-) -> u8
-    ensures { (amounts masks good carried : List ℕ) → flat result (arrays words.new counts.new bytes.new amounts masks good carried) ≡ flat_order (arrays words.old counts.old bytes.old amounts masks good carried) m }
+pub fn order(board: &mut Arrays, m: usize) -> Result<(), Refusal>
+    ensures { flat (answer_number result) board.new ≡ flat_order board.old m }
 {
     if POSTINGS <= m {
-        return 12;
+        return Err(Refusal::NotInPool);
     }
-    if has_in(words, POOL, m) {
-        drop_from(words, POOL, m);
-        append_log(counts, bytes, m);
-        return 0;
+    if !has_in(&board.sets, POOL, m) {
+        return Err(Refusal::NotInPool);
     }
-    12
+    drop_from(&mut board.sets, POOL, m);
+    append_log(board, m);
+    Ok(())
 }
 
 // Site p delivers m's entry, unless its step is cut: nothing is delivered then.
-fn deliver_entry_to(
-    words: &mut [u64; SETS],
-    counts: &mut [usize; COUNTS],
-    bytes: &mut [u8; BYTES],
-    p: usize,
-    m: usize,
-    cut: Cut,
-)
+fn deliver_entry_to(board: &mut Arrays, p: usize, m: usize, cut: Cut)
     requires { (p < sites) × (m < capacity) }
-    ensures { laid words.new counts.new bytes.new ≡ entry_delivered_to (laid words.old counts.old bytes.old) p m cut }
+    ensures { board.new ≡ with_laid board.old (entry_delivered_to (laid_of board.old) p m cut) }
 {
     match cut {
-        Cut::Whole => {
-            deliver_entry(words, counts, bytes, p, m);
-            return;
-        }
-        Cut::After(j) => {
-            return;
-        }
+        Cut::Whole => deliver_entry(board, p, m),
+        Cut::After(_) => {}
     }
 }
 
 // Read: a site takes the log's next entry.
-pub fn read(
-    words: &mut [u64; SETS],
-    counts: &mut [usize; COUNTS],
-    bytes: &mut [u8; BYTES],
-    setup: Setup,
-    site: usize,
-    cut: Cut,
-) -> u8
-    requires { (setup.n ≤ sites) × LogFits counts.old bytes.old }
-    ensures { (amounts masks good carried : List ℕ) → flat result (arrays words.new counts.new bytes.new amounts masks good carried) ≡ flat_read setup (arrays words.old counts.old bytes.old amounts masks good carried) site cut }
+pub fn read(board: &mut Arrays, setup: Setup, site: usize, cut: Cut) -> Result<(), Refusal>
+    requires { (setup.n ≤ sites) × LogFits board.old.counts board.old.bytes }
+    ensures { flat (answer_number result) board.new ≡ flat_read setup board.old site cut }
 {
-    let down = bytes[DOWN];
-    let why = site_refusal(setup.n, down, site);
-    if why != 0 {
-        return why;
-    }
-    let place = counts[PLACE + site];
-    let logged = counts[LOGGED];
+    let down = board.bytes[DOWN];
+    site_acts(setup.n, down, site)?;
+    let place = board.counts[PLACE + site];
+    let logged = board.counts[LOGGED];
     if logged <= place {
-        return 13;
+        return Err(Refusal::LogRead);
     }
-    let late = cut_refusal(setup.f, down, 0, cut);
-    if late != 0 {
-        return late;
-    }
-    let m = bytes[LOG + place] as usize;
-    counts[PLACE + site] = place + 1;
-    mark(bytes, site, cut);
-    deliver_entry_to(words, counts, bytes, site, m, cut);
-    0
+    cut_allowed(setup.f, down, 0, cut)?;
+    let m = usize::from(board.bytes[LOG + place]);
+    board.counts[PLACE + site] = place + 1;
+    mark(&mut board.bytes, site, cut);
+    deliver_entry_to(board, site, m, cut);
+    Ok(())
 }
 
 // Crash: a site goes down for good.
-pub fn crash(bytes: &mut [u8; BYTES], setup: Setup, site: usize) -> u8
+pub fn crash(board: &mut Arrays, setup: Setup, site: usize) -> Result<(), Refusal>
     requires { setup.n ≤ sites }
-    ensures { (sets counts amounts masks good carried : List ℕ) → flat result (arrays sets counts bytes.new amounts masks good carried) ≡ flat_crash setup (arrays sets counts bytes.old amounts masks good carried) site }
+    ensures { flat (answer_number result) board.new ≡ flat_crash setup board.old site }
 {
-    let down = bytes[DOWN];
-    let why = site_refusal(setup.n, down, site);
-    if why != 0 {
-        return why;
-    }
-    let crashes = setup.f as u32;
-    let lost = u8::count_ones(down);
+    let down = board.bytes[DOWN];
+    site_acts(setup.n, down, site)?;
+    let crashes = u32::from(setup.f);
+    let lost = down.count_ones();
     if crashes <= lost {
-        return 14;
+        return Err(Refusal::CrashLimit);
     }
-    bytes[DOWN] = with_site(down, site as u8);
-    0
+    board.bytes[DOWN] = with_site(down, site as u8);
+    Ok(())
 }

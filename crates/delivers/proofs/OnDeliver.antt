@@ -10,21 +10,13 @@ use Rattle.site.specs.declared.Setup.{Setup}
 use Rattle.site.specs.Sends.{DELIVER}
 use Rattle.flight.specs.Flights.{taking_from, sending_to}
 use Rattle.steps.specs.declared.Cut.{Cut}
-use Rattle.steps.specs.declared.Cut.TheVariants.{Whole, After}
 use Rattle.steps.specs.Cuts.{sites_to}
 use Rattle.arrays.specs.Layout.{got_of, owner_at}
-use Rattle.arrays.specs.Arrays.{Arrays, arrays, has_in, adding, byte, marked}
-use Rattle.delivery.specs.Delivery.{Laid, laid, delivered}
+use Rattle.arrays.specs.declared.Arrays.{Arrays}
+use Rattle.arrays.specs.Arrays.{arrays, has_in, adding, byte, marked}
+use Rattle.delivery.specs.Delivery.{Laid, laid, with_laid}
 use Rattle.flat.specs.Flat.{Flat, flat, cut_cause, consumed, delivered_to, flat_deliver}
 use Rattle.flat.proofs.Ways.{is_refused, goes_on}
-
--- ---- delivery at a site, whole and cut
-
-pub delivers_whole : (old new : Laid) (p m : ℕ) (cut : Cut) → cut ≡ Whole → new ≡ delivered old p m → new ≡ delivered_to old p m cut
-delivers_whole old new p m cut e is = rw e is
-
-pub delivers_cut : (old : Laid) (p m j : ℕ) (cut : Cut) → cut ≡ After j → old ≡ delivered_to old p m cut
-delivers_cut old p m j cut e = rw e
 
 -- ---- DELIVER
 
@@ -54,12 +46,12 @@ module _ (setup : Setup) (a : Arrays) (m from to : ℕ) (cut : Cut) (known : Boo
     relayed sets bytes = delivered_to (laid sets a.counts bytes) to m cut
 
     pub deliver_done :
-        (out : ℕ) (added sets counts down bytes taken masks : List ℕ) → why ≡ 0 → out ≡ sites_to all cut → added ≡ adding a.sets (got_of to) m
+        (out : ℕ) (added down taken masks : List ℕ) (after : Arrays) → why ≡ 0 → out ≡ sites_to all cut → added ≡ adding a.sets (got_of to) m
         → taken ≡ taking_from a.masks DELIVER m from to → masks ≡ sending_to taken DELIVER m to out → down ≡ marked a.bytes to cut
-        → laid sets counts bytes ≡ relayed added down
-        → flat 0 (arrays sets counts bytes a.amounts masks a.good a.carried) ≡ flat_deliver setup a m from to cut
+        → after ≡ with_laid (arrays added a.counts down a.amounts masks a.good a.carried) (relayed added down)
+        → flat 0 after ≡ flat_deliver setup a m from to cut
     unfolding flat_deliver
-    deliver_done out added sets counts down bytes taken masks z eo ea et em ed is =
+    deliver_done out added down taken masks after z eo ea et em ed is =
         let added-to = ap (λ (x : List ℕ). relayed x down) ea in
         let marked-down = ap (λ (x : List ℕ). relayed (adding a.sets (got_of to) m) x) ed in
-        rw (em, et, eo, is_all, sym is_Known, new) (ap done (is ∙ added-to ∙ marked-down) ∙ goes_on why _ cause a _ z)
+        rw (is, em, et, eo, is_all, sym is_Known, new) (ap done (added-to ∙ marked-down) ∙ goes_on why _ cause a _ z)

@@ -17,8 +17,18 @@ use Rattle.sets.specs.Words.{word, member, members, members_below}
 use Rattle.sets.proofs.WordLaws.{member_at}
 use Rattle.sets.specs.Sets.{capacity}
 use Rattle.arrays.specs.Layout.{have_of, delivered_at, record_at}
+use Rattle.arrays.specs.declared.Arrays.{Arrays}
 use Rattle.arrays.specs.Arrays.{has_in, adding}
-use Rattle.delivery.specs.Delivery.{Laid, laid, recorded, delivered, delivered_all, bits_from}
+use Rattle.delivery.specs.Delivery.{Laid, laid, laid_of, with_laid, recorded, delivered, delivered_all, bits_from}
+
+-- ---- what a delivery leaves alone
+
+module _ (first b : Arrays) (kept : with_laid first (laid_of b) ≡ b) where
+  pub rest_kept : (after : Arrays) (d : Laid) → after ≡ with_laid b d → with_laid first (laid_of after) ≡ after
+  rest_kept after d e = ap (λ (x : Arrays). with_laid first (laid_of x)) e ∙ sym (e ∙ ap (λ (x : Arrays). with_laid x d) (sym kept))
+
+  pub whole : (d : Laid) → laid_of b ≡ d → b ≡ with_laid first d
+  whole d e = sym kept ∙ ap (with_laid first) e
 
 -- ---- a posting delivered: the record has it, is full, or lacks it
 

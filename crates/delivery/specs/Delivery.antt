@@ -4,7 +4,8 @@ use Rattle.std.specs.Prelude.{ℕ, zero, suc, ◌+◌, ◌/◌, Bool, cond, List
 use Rattle.sets.specs.Masks.{has_bit}
 use Rattle.sets.specs.Sets.{capacity, members_of}
 use Rattle.arrays.specs.Layout.{have_of, delivered_at, record_at, entry_of}
-use Rattle.arrays.specs.Arrays.{slot_set, has_in, adding}
+use Rattle.arrays.specs.declared.Arrays.{Arrays}
+use Rattle.arrays.specs.Arrays.{arrays, slot_set, has_in, adding}
 
 -- the arrays that a delivery changes
 pub record Laid : Type 0 where
@@ -14,6 +15,13 @@ pub record Laid : Type 0 where
 
 abbrev pub laid : List ℕ → List ℕ → List ℕ → Laid
 laid sets counts bytes = record { sets = sets; counts = counts; bytes = bytes }
+
+-- those of a board at work, and the board with them
+abbrev pub laid_of : Arrays → Laid
+laid_of a = laid a.sets a.counts a.bytes
+
+abbrev pub with_laid : Arrays → Laid → Arrays
+with_laid a d = arrays d.sets d.counts d.bytes a.amounts a.masks a.good a.carried
 
 -- how many postings the record of site p has
 abbrev pub recorded : List ℕ → ℕ → ℕ

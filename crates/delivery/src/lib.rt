@@ -5,72 +5,52 @@
 ghost use Rattle.std.specs.Prelude.{◌+◌, ◌<◌, ◌≤◌, ◌≡◌};
 ghost use Rattle.sets.specs.Sets.{capacity};
 ghost use Rattle.site.specs.Sites.{sites};
-ghost use Rattle.delivery.specs.Delivery.{laid, delivered, delivered_all, bits_from, delivered_entry};
+ghost use Rattle.delivery.specs.Delivery.{laid_of, with_laid, delivered, delivered_all, bits_from, delivered_entry};
 
-use arrays::{BYTES, COUNTS, DELIVERED, ENTRY, HAVE, RECORD, SETS, add_to, has_in, load};
+use arrays::{Arrays, DELIVERED, ENTRY, HAVE, RECORD, add_to, has_in, load};
 use sets::{POSTINGS, WORDS};
 
 // Site p delivers m, if its record lacks it; a full record stays.
-pub fn deliver(
-    words: &mut [u64; SETS],
-    counts: &mut [usize; COUNTS],
-    bytes: &mut [u8; BYTES],
-    p: usize,
-    m: usize,
-)
+pub fn deliver(board: &mut Arrays, p: usize, m: usize)
     requires { (p < sites) × (m < capacity) }
-    ensures { laid words.new counts.new bytes.new ≡ delivered (laid words.old counts.old bytes.old) p m }
+    ensures { board.new ≡ with_laid board.old (delivered (laid_of board.old) p m) }
 {
-    if has_in(words, HAVE + p, m) {
+    if has_in(&board.sets, HAVE + p, m) {
         return;
     }
-    let count = counts[DELIVERED + p];
+    let count = board.counts[DELIVERED + p];
     if POSTINGS <= count {
         return;
     }
-    add_to(words, HAVE + p, m);
-    counts[DELIVERED + p] = count + 1;
-    bytes[RECORD + p * POSTINGS + count] = m as u8;
+    add_to(&mut board.sets, HAVE + p, m);
+    board.counts[DELIVERED + p] = count + 1;
+    board.bytes[RECORD + p * POSTINGS + count] = m as u8;
 }
 
 // Site p delivers what is set in a word of a set, whose bits are numbered from `base` on, lowest first.
-fn deliver_word(
-    words: &mut [u64; SETS],
-    counts: &mut [usize; COUNTS],
-    bytes: &mut [u8; BYTES],
-    p: usize,
-    base: usize,
-    word: u64,
-)
+fn deliver_word(board: &mut Arrays, p: usize, base: usize, word: u64)
     requires { (p < sites) × (base + 64 ≤ capacity) }
-    ensures { laid words.new counts.new bytes.new ≡ delivered_all (laid words.old counts.old bytes.old) p (bits_from 64 word base) }
+    ensures { board.new ≡ with_laid board.old (delivered_all (laid_of board.old) p (bits_from 64 word base)) }
 {
     let mut w = word;
     let mut x = base;
     while w != 0 {
-        let t = u64::trailing_zeros(w);
-        x = x + t as usize;
-        deliver(words, counts, bytes, p, x);
+        let t = w.trailing_zeros();
+        x += t as usize;
+        deliver(board, p, x);
         w = (w >> t) / 2;
-        x = x + 1;
+        x += 1;
     }
 }
 
 // Site p delivers m's entry: the carried set in rising number, then m.
-pub fn deliver_entry(
-    words: &mut [u64; SETS],
-    counts: &mut [usize; COUNTS],
-    bytes: &mut [u8; BYTES],
-    p: usize,
-    m: usize,
-)
+pub fn deliver_entry(board: &mut Arrays, p: usize, m: usize)
     requires { (p < sites) × (m < capacity) }
-    ensures { laid words.new counts.new bytes.new ≡ delivered_entry (laid words.old counts.old bytes.old) p m }
+    ensures { board.new ≡ with_laid board.old (delivered_entry (laid_of board.old) p m) }
 {
-    let carried = load(words, ENTRY + m);
+    let carried = load(&board.sets, ENTRY + m);
     for k in 0..WORDS {
-        let w = carried.words[k];
-        deliver_word(words, counts, bytes, p, 64 * k, w);
+        deliver_word(board, p, 64 * k, carried.words[k]);
     }
-    deliver(words, counts, bytes, p, m);
+    deliver(board, p, m);
 }

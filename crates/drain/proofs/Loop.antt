@@ -17,7 +17,7 @@ use Rattle.flight.specs.Flights.{pairs, cells, cell_at, taking_out, lowest_from,
 use Rattle.flight.specs.ByMask.{sending_mask}
 use Rattle.flight.proofs.FloorLaws.{NoneBelow, floor_search, message_floor, nothing_floor}
 use Rattle.site.specs.declared.Setup.{Setup}
-use Rattle.arrays.specs.Arrays.{Arrays}
+use Rattle.arrays.specs.declared.Arrays.{Arrays}
 use Rattle.machine.specs.declared.Board.{Board}
 use Rattle.machine.specs.View.{view}
 use Rattle.steps.specs.declared.Cut.TheVariants.{Whole}

@@ -15,7 +15,8 @@ use Rattle.site.specs.declared.Setup.{Setup}
 use Rattle.site.specs.declared.Site.{Site}
 use Rattle.site.specs.Sites.{sites}
 use Rattle.arrays.specs.Layout.{down_at}
-use Rattle.arrays.specs.Arrays.{Arrays, byte}
+use Rattle.arrays.specs.declared.Arrays.{Arrays}
+use Rattle.arrays.specs.Arrays.{byte}
 use Rattle.machine.specs.declared.Board.{Board}
 use Rattle.steps.specs.declared.Cut.TheVariants.{Whole}
 use Rattle.steps.specs.declared.Call.TheVariants.{Order, Read}

@@ -19,7 +19,8 @@ use Rattle.steps.specs.declared.Cut.TheVariants.{Whole}
 use Rattle.steps.specs.declared.Call.{Call}
 use Rattle.steps.specs.declared.Call.TheVariants.{Receive, Order, Read}
 use Rattle.arrays.specs.Layout.{pool_slot, count_at, down_at}
-use Rattle.arrays.specs.Arrays.{Arrays, slot_set, byte}
+use Rattle.arrays.specs.declared.Arrays.{Arrays}
+use Rattle.arrays.specs.Arrays.{slot_set, byte}
 use Rattle.arrays.proofs.Slots.{slot_long}
 use Rattle.flat.specs.Flat.{Flat, flat, flat_receive, flat_order, flat_read, flat_perform, LogFits}
 use Rattle.machine.specs.declared.Board.{Board}

@@ -17,7 +17,8 @@ use Rattle.flight.specs.Flights.{is_pair, is_cell, receivers_in, message_in}
 use Rattle.steps.specs.declared.Cut.{Cut}
 use Rattle.steps.specs.CauseLists.{first_cause, message_causes}
 use Rattle.arrays.specs.Layout.{down_at}
-use Rattle.arrays.specs.Arrays.{Arrays, byte}
+use Rattle.arrays.specs.declared.Arrays.{Arrays}
+use Rattle.arrays.specs.Arrays.{byte}
 use Rattle.flat.specs.Flat.{Flat, flat, flat_first, flat_second, flat_third, flat_deliver, flat_receive}
 use Rattle.flat.proofs.Ways.{is_refused}
 

@@ -1,55 +1,41 @@
 // A message received: refused, or handed on to the step of its form.
 // Rests on thirds, delivers, seconds and firsts.
-ghost use Rattle.std.specs.Prelude.{ℕ, ◌≤◌, ◌≡◌, List};
+ghost use Rattle.std.specs.Prelude.{◌≤◌, ◌≡◌};
 ghost use Rattle.site.specs.Sites.{sites};
-ghost use Rattle.arrays.specs.Arrays.{arrays};
+ghost use Rattle.steps.specs.Refusals.{answer_number};
 ghost use Rattle.flat.specs.Flat.{flat, flat_receive};
 
 use arrays::messages::is_sent;
-use arrays::{BYTES, COUNTS, DOWN, SETS};
+use arrays::{Arrays, DOWN};
 use delivers::on_deliver;
 use firsts::on_first;
-use flight::{LOADS, MASKS, PAIRS};
 use seconds::second::on_second;
 use site::Setup;
-use steps::Cut;
-use steps::refusals::message_refusal;
+use steps::refusals::message_arrives;
+use steps::{Receipt, Refusal};
 use thirds::third::on_third;
 
 // Receive: the message leaves the flight, and its receiver takes the step of its form.
 pub fn receive(
-    words: &mut [u64; SETS],
-    counts: &mut [usize; COUNTS],
-    bytes: &mut [u8; BYTES],
-    masks: &mut [u8; MASKS],
-    good: &mut [u8; PAIRS],
-    carried: &mut [u64; LOADS],
+    board: &mut Arrays,
     setup: Setup,
     form: usize,
-    m: usize,
-    from: usize,
-    to: usize,
-    cut: Cut,
-) -> u8
+    receipt: Receipt,
+) -> Result<(), Refusal>
     requires { setup.n ≤ sites }
-    ensures { (amounts : List ℕ) → flat result (arrays words.new counts.new bytes.new amounts masks.new good.new carried.new) ≡ flat_receive setup (arrays words.old counts.old bytes.old amounts masks.old good.old carried.old) form m from to cut }
+    ensures { flat (answer_number result) board.new ≡ flat_receive setup board.old form receipt.posting receipt.from receipt.to receipt.cut }
 {
-    let down = bytes[DOWN];
-    let why = message_refusal(setup.n, down, from, to);
-    if why != 0 {
-        return why;
+    let Receipt {
+        posting, from, to, ..
+    } = receipt;
+    message_arrives(setup.n, board.bytes[DOWN], from, to)?;
+    if !is_sent(&board.masks, form, posting, from, to) {
+        return Err(Refusal::NotInFlight);
     }
-    if is_sent(masks, form, m, from, to) {
-        if form == 0 {
-            return on_first(words, bytes, masks, good, setup, m, from, to, cut);
-        }
-        if form == 1 {
-            return on_second(words, bytes, masks, good, carried, setup, m, from, to, cut);
-        }
-        if form == 2 {
-            return on_third(words, bytes, masks, carried, setup, m, from, to, cut);
-        }
-        return on_deliver(words, counts, bytes, masks, setup, m, from, to, cut);
+    match form {
+        0 => on_first(board, setup, receipt),
+        1 => on_second(board, setup, receipt),
+        2 => on_third(board, setup, receipt),
+        _ => on_deliver(board, setup, receipt),
     }
-    11
 }

@@ -15,7 +15,8 @@ use Rattle.flight.specs.Flights.{taking_from, sending_to, saying}
 use Rattle.steps.specs.declared.Cut.{Cut}
 use Rattle.steps.specs.Cuts.{sites_to}
 use Rattle.arrays.specs.Layout.{seen_of}
-use Rattle.arrays.specs.Arrays.{Arrays, arrays, slot_set, storing, marked}
+use Rattle.arrays.specs.declared.Arrays.{Arrays}
+use Rattle.arrays.specs.Arrays.{arrays, slot_set, storing, marked}
 use Rattle.index.specs.Index.{conflicts_in}
 use Rattle.flat.specs.Flat.{flat, cut_cause, flat_first}
 use Rattle.flat.proofs.Ways.{is_refused, goes_on}

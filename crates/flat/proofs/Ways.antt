@@ -4,7 +4,7 @@ use Prim.Native.Nat.{ℕ}
 use mathlib.Core.Path.{◌≡◌, sym, ap, ◌∙◌}
 use mathlib.Core.Logic.{◌≢◌}
 use borrow.Author.Tests.{eq-eqb, ne_eqb}
-use Rattle.arrays.specs.Arrays.{Arrays}
+use Rattle.arrays.specs.declared.Arrays.{Arrays}
 use Rattle.flat.specs.Flat.{Flat, flat, refused_or, followed}
 
 module _ (why cause : ℕ) (is : why ≡ cause) (a : Arrays) (rest : Flat) where

@@ -20,7 +20,8 @@ use Rattle.steps.specs.declared.Call.TheVariants.{Offer, Receive, Order, Read, C
 use Rattle.steps.specs.CauseLists.{first_cause, site_causes, message_causes, offer_causes, cut_causes}
 use Rattle.steps.specs.Cuts.{sites_to}
 use Rattle.arrays.specs.Layout.{seen_of, held_of, stepped_of, finished_of, got_of, pool_slot, union_of, entry_of, count_at, logged_at, place_at, down_at, owner_at, kind_at, from_at, into_at, tallied_at, has_at, log_at, heard_at, good_at}
-use Rattle.arrays.specs.Arrays.{Arrays, with_sets, with_counts, with_bytes, with_masks, with_good, with_carried, slot_set, storing, has_in, adding, dropping, byte, marked}
+use Rattle.arrays.specs.declared.Arrays.{Arrays}
+use Rattle.arrays.specs.Arrays.{with_sets, with_counts, with_bytes, with_masks, with_good, with_carried, slot_set, storing, has_in, adding, dropping, byte, marked}
 use Rattle.index.specs.Index.{conflicts_in, indexing}
 use Rattle.delivery.specs.Delivery.{Laid, laid, delivered, delivered_entry}
 

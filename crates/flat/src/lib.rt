@@ -2,39 +2,35 @@
 // Rests on arrays, on steps for the cut.
 #![tactic(auto)]
 
-ghost use Rattle.std.specs.Prelude.{ℕ, ◌<◌, ◌≡◌, List};
-ghost use Rattle.sets.specs.Sets.{capacity};
-ghost use Rattle.site.specs.Sites.{sites};
-ghost use Rattle.arrays.specs.Arrays.{arrays};
+ghost use Rattle.std.specs.Prelude.{◌<◌, ◌≡◌};
+ghost use Rattle.steps.specs.Refusals.{answer_number};
+ghost use Rattle.steps.specs.Receipts.{InRange};
 ghost use Rattle.flat.specs.Flat.{flat, consumed};
 
 use arrays::messages::take_out;
-use arrays::{BYTES, DOWN, mark};
-use flight::MASKS;
+use arrays::{Arrays, DOWN, mark};
 use site::Setup;
-use steps::Cut;
-use steps::refusals::cut_refusal;
+use steps::refusals::cut_allowed;
+use steps::{Receipt, Refusal};
 
 // A message leaves, its receiver sends nothing, and goes down if its step is cut.
 pub fn consume(
-    bytes: &mut [u8; BYTES],
-    masks: &mut [u8; MASKS],
+    board: &mut Arrays,
     setup: Setup,
     form: usize,
-    m: usize,
-    from: usize,
-    to: usize,
-    cut: Cut,
-) -> u8
-    requires { (form < 4) × (m < capacity) × (from < sites) × (to < sites) }
-    ensures { (sets counts amounts good carried : List ℕ) → flat result (arrays sets counts bytes.new amounts masks.new good carried) ≡ consumed setup (arrays sets counts bytes.old amounts masks.old good carried) form m from to cut }
+    receipt: Receipt,
+) -> Result<(), Refusal>
+    requires { (form < 4) × InRange receipt }
+    ensures { flat (answer_number result) board.new ≡ consumed setup board.old form receipt.posting receipt.from receipt.to receipt.cut }
 {
-    let down = bytes[DOWN];
-    let why = cut_refusal(setup.f, down, 0, cut);
-    if why != 0 {
-        return why;
-    }
-    take_out(masks, form, m, from, to);
-    mark(bytes, to, cut);
-    0
+    let Receipt {
+        posting,
+        from,
+        to,
+        cut,
+    } = receipt;
+    cut_allowed(setup.f, board.bytes[DOWN], 0, cut)?;
+    take_out(&mut board.masks, form, posting, from, to);
+    mark(&mut board.bytes, to, cut);
+    Ok(())
 }

@@ -18,7 +18,7 @@ use Rattle.books.specs.Books.{Books, blank, books, numbers, figures_on, sheet_of
 use Rattle.books.specs.Bounds.{Postable}
 use Rattle.books.proofs.Blocks.{length_numbers, part_all, part_back, sheet_numbers}
 use Rattle.site.specs.Sites.{sites}
-use Rattle.arrays.specs.Arrays.{Arrays}
+use Rattle.arrays.specs.declared.Arrays.{Arrays}
 use Rattle.views.specs.Views.{record_in, table_of}
 use Rattle.lookup_pairs.specs.Pairs.{visited_to}
 use Rattle.lookup_pairs.specs.Gathered.{block_of}

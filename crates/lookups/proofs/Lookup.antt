@@ -24,7 +24,8 @@ use Rattle.site.specs.declared.Setup.{Setup}
 use Rattle.site.specs.declared.Site.{Site}
 use Rattle.site.specs.Sites.{sites}
 use Rattle.masks.specs.SiteMasks.{room}
-use Rattle.arrays.specs.Arrays.{Arrays, arrays}
+use Rattle.arrays.specs.declared.Arrays.{Arrays}
+use Rattle.arrays.specs.Arrays.{arrays}
 use Rattle.views.specs.Views.{record_in, row_of, table_of}
 use Rattle.machine.specs.declared.Board.{Board}
 use Rattle.machine.specs.declared.Answer.{Answer}

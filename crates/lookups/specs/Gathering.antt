@@ -4,7 +4,7 @@ use Rattle.std.specs.Prelude.{ℕ, ◌+◌, ◌*◌, ◌<◌, ◌≡◌, true, L
 use Rattle.sets.specs.Masks.{has_bit}
 use Rattle.posting.specs.Records.{numbers_of}
 use Rattle.books.specs.Books.{blank, books, numbers}
-use Rattle.arrays.specs.Arrays.{Arrays}
+use Rattle.arrays.specs.declared.Arrays.{Arrays}
 use Rattle.views.specs.Views.{record_in, table_of}
 use Rattle.lookup_pairs.specs.Gathered.{block_of}
 

@@ -10,7 +10,7 @@ use borrow.Author.Tests.{eq-eqb, ne_eqb}
 use Rattle.sets.proofs.Truth.{test}
 use Rattle.steps.specs.declared.Cut.{Cut}
 use Rattle.steps.specs.declared.Call.{Call}
-use Rattle.arrays.specs.Arrays.{Arrays}
+use Rattle.arrays.specs.declared.Arrays.{Arrays}
 use Rattle.flat.specs.Flat.{Flat, flat, flat_perform}
 use Rattle.steps.specs.Causes.{Cause}
 use Rattle.machine.specs.declared.Board.{Board}

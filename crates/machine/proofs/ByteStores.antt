@@ -14,7 +14,8 @@ use Rattle.flight.specs.Flights.{cells, words_from}
 use Rattle.steps.specs.declared.Cut.{Cut}
 use Rattle.steps.specs.Cuts.{down_after}
 use Rattle.arrays.specs.Layout.{count_at, logged_at, place_at, delivered_at, down_at, owner_at, kind_at, from_at, into_at, tallied_at, has_at, log_at, heard_at, good_at, record_at}
-use Rattle.arrays.specs.Arrays.{Arrays, with_counts, with_bytes, with_masks, with_good, with_carried, byte, marked}
+use Rattle.arrays.specs.declared.Arrays.{Arrays}
+use Rattle.arrays.specs.Arrays.{with_counts, with_bytes, with_masks, with_good, with_carried, byte, marked}
 use Rattle.arrays.proofs.Slots.{part_ext, part_set}
 use Rattle.flat.specs.Flat.{hearing, tallying}
 use Rattle.views.specs.Views.{record_in, site_of, tally_of, row_of, table_of, log_of}

@@ -28,7 +28,8 @@ use Rattle.site.specs.ByMask.{delivering_entry}
 use Rattle.flight.specs.Flights.{words_from}
 use Rattle.flight.proofs.CarriedLaws.{length_words_from}
 use Rattle.arrays.specs.Layout.{seen_of, held_of, stepped_of, finished_of, got_of, pool_slot, union_of, entry_of, kind_of, have_of, count_at, logged_at, place_at, delivered_at, down_at, owner_at, kind_at, from_at, into_at, tallied_at, has_at, log_at, heard_at, good_at, record_at}
-use Rattle.arrays.specs.Arrays.{Arrays, arrays, slot_set, has_in, adding, byte}
+use Rattle.arrays.specs.declared.Arrays.{Arrays}
+use Rattle.arrays.specs.Arrays.{arrays, slot_set, has_in, adding, byte}
 use Rattle.arrays.proofs.Slots.{part_ext, part_other, part_set, slot_long, has_slot, long_added, slot_added, slot_added_other}
 use Rattle.delivery.specs.Delivery.{Laid, laid, delivered, delivered_all, delivered_entry}
 use Rattle.views.specs.Views.{record_in, site_of, tally_of, row_of, table_of, log_of}

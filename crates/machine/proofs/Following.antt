@@ -32,7 +32,8 @@ use Rattle.steps.specs.declared.Cut.TheVariants.{Whole, After}
 use Rattle.steps.specs.Cuts.{sites_to, after_delivery_to, down_after}
 use Rattle.steps.specs.ByMask.{enters, entered}
 use Rattle.arrays.specs.Layout.{pool_slot, entry_of, down_at}
-use Rattle.arrays.specs.Arrays.{Arrays, slot_set, byte}
+use Rattle.arrays.specs.declared.Arrays.{Arrays}
+use Rattle.arrays.specs.Arrays.{slot_set, byte}
 use Rattle.flat.specs.Flat.{Flat, flat, refused_or, followed, cut_cause}
 use Rattle.views.specs.Views.{record_in}
 use Rattle.machine.specs.View.{Right}

@@ -31,7 +31,8 @@ use Rattle.steps.specs.declared.Call.TheVariants.{Offer, Receive, Order, Read, C
 use Rattle.steps.specs.CauseLists.{first_cause, message_causes, offer_causes}
 use Rattle.steps.specs.ByMask.{receipt_by_mask}
 use Rattle.arrays.specs.Layout.{down_at, count_at, kind_at, from_at, into_at}
-use Rattle.arrays.specs.Arrays.{Arrays, byte}
+use Rattle.arrays.specs.declared.Arrays.{Arrays}
+use Rattle.arrays.specs.Arrays.{byte}
 use Rattle.index.specs.Index.{conflicts_in}
 use Rattle.index.proofs.Indexed.{conflicts_right}
 use Rattle.flat.specs.Flat.{Flat, flat, cut_cause, flat_first, flat_second, flat_third, flat_deliver, flat_receive, flat_offer, site_cause}

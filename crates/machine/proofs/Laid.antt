@@ -19,7 +19,8 @@ use Rattle.books.proofs.Lists.{is_tabulate}
 use Rattle.site.specs.Sites.{sites, no_set, no_site, no_tally}
 use Rattle.flight.specs.Flights.{words_from}
 use Rattle.arrays.specs.Layout.{entry_of, count_at, logged_at, place_at, delivered_at, counts_long, down_at, log_at, heard_at, good_at, record_at, bytes_long, sets_long}
-use Rattle.arrays.specs.Arrays.{Arrays, arrays, slot_set, byte}
+use Rattle.arrays.specs.declared.Arrays.{Arrays}
+use Rattle.arrays.specs.Arrays.{arrays, slot_set, byte}
 use Rattle.arrays.proofs.Slots.{part_ext}
 use Rattle.machine.specs.declared.Board.{Board}
 use Rattle.machine.specs.Boards.{site_at, tally_at}

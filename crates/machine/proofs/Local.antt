@@ -29,7 +29,8 @@ use Rattle.steps.specs.declared.Cut.{Cut}
 use Rattle.steps.specs.Cuts.{sites_to, after_delivery_to, down_after}
 use Rattle.steps.specs.ByMask.{enters, entered}
 use Rattle.arrays.specs.Layout.{pool_slot, entry_of, index_rows, kind_of, have_of, sets_long, counts_long, bytes_long, down_at}
-use Rattle.arrays.specs.Arrays.{Arrays, slot_set, has_in, byte}
+use Rattle.arrays.specs.declared.Arrays.{Arrays}
+use Rattle.arrays.specs.Arrays.{slot_set, has_in, byte}
 use Rattle.arrays.proofs.Slots.{has_slot}
 use Rattle.index.specs.Index.{Indexed}
 use Rattle.flat.specs.Flat.{Flat, flat, cut_cause}

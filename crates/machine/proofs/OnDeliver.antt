@@ -25,7 +25,8 @@ use Rattle.steps.specs.declared.Cut.{Cut}
 use Rattle.steps.specs.declared.Cut.TheVariants.{Whole, After}
 use Rattle.steps.specs.Cuts.{sites_to, after_delivery_to, down_after}
 use Rattle.arrays.specs.Layout.{got_of, down_at, owner_at}
-use Rattle.arrays.specs.Arrays.{Arrays, with_sets, with_bytes, with_masks, has_in, adding, byte, marked}
+use Rattle.arrays.specs.declared.Arrays.{Arrays}
+use Rattle.arrays.specs.Arrays.{with_sets, with_bytes, with_masks, has_in, adding, byte, marked}
 use Rattle.arrays.proofs.Slots.{has_slot}
 use Rattle.delivery.specs.Delivery.{delivered}
 use Rattle.flat.specs.Flat.{Flat, flat, refused_or, cut_cause, consumed, delivered_to, flat_deliver}

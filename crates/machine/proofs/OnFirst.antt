@@ -21,7 +21,8 @@ use Rattle.flight.specs.Flights.{cells, taking_from, sending_to, saying}
 use Rattle.steps.specs.declared.Cut.{Cut}
 use Rattle.steps.specs.Cuts.{sites_to}
 use Rattle.arrays.specs.Layout.{seen_of, pool_slot}
-use Rattle.arrays.specs.Arrays.{Arrays, with_sets, with_bytes, slot_set, storing, marked}
+use Rattle.arrays.specs.declared.Arrays.{Arrays}
+use Rattle.arrays.specs.Arrays.{with_sets, with_bytes, slot_set, storing, marked}
 use Rattle.arrays.proofs.Slots.{slot_long, insert_long}
 use Rattle.index.specs.Index.{conflicts_in}
 use Rattle.flat.specs.Flat.{flat_first}

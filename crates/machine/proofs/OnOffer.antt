@@ -28,7 +28,8 @@ use Rattle.flight.specs.Flights.{flight_of, sending_to}
 use Rattle.steps.specs.declared.Cut.{Cut}
 use Rattle.steps.specs.Cuts.{sites_to, down_after}
 use Rattle.arrays.specs.Layout.{shown_slots, seen_of, held_of, stepped_of, finished_of, got_of, pool_slot, union_of, entry_of, have_of, count_at, down_at, owner_at, kind_at, from_at, into_at}
-use Rattle.arrays.specs.Arrays.{Arrays, with_sets, with_bytes, with_masks, slot_set, has_in, byte, marked}
+use Rattle.arrays.specs.declared.Arrays.{Arrays}
+use Rattle.arrays.specs.Arrays.{with_sets, with_bytes, with_masks, slot_set, has_in, byte, marked}
 use Rattle.arrays.proofs.Slots.{has_slot}
 use Rattle.index.specs.Index.{indexing, Indexed}
 use Rattle.index.proofs.Indexed.{indexed_offer, long_indexed, slot_indexed_other}

@@ -18,7 +18,8 @@ use Rattle.steps.specs.declared.Cut.{Cut}
 use Rattle.steps.specs.declared.Cut.TheVariants.{Whole, After}
 use Rattle.steps.specs.Cuts.{entry_to, down_after}
 use Rattle.arrays.specs.Layout.{entry_of, place_at, down_at}
-use Rattle.arrays.specs.Arrays.{Arrays, with_counts, with_bytes, slot_set, byte, marked}
+use Rattle.arrays.specs.declared.Arrays.{Arrays}
+use Rattle.arrays.specs.Arrays.{with_counts, with_bytes, slot_set, byte, marked}
 use Rattle.delivery.specs.Delivery.{delivered_entry}
 use Rattle.flat.specs.Flat.{entry_delivered_to}
 use Rattle.machine.specs.declared.Board.{Board}

@@ -31,7 +31,8 @@ use Rattle.flight.proofs.CarriedLaws.{word_from, length_words_from}
 use Rattle.steps.specs.declared.Cut.{Cut}
 use Rattle.steps.specs.Cuts.{sites_to}
 use Rattle.arrays.specs.Layout.{seen_of, held_of, stepped_of, pool_slot, owner_at, heard_at, good_at}
-use Rattle.arrays.specs.Arrays.{Arrays, with_sets, with_bytes, with_masks, with_good, with_carried, slot_set, storing, has_in, byte, marked}
+use Rattle.arrays.specs.declared.Arrays.{Arrays}
+use Rattle.arrays.specs.Arrays.{with_sets, with_bytes, with_masks, with_good, with_carried, slot_set, storing, has_in, byte, marked}
 use Rattle.arrays.proofs.Slots.{slot_long, insert_long, has_slot}
 use Rattle.index.specs.Index.{conflicts_in}
 use Rattle.flat.specs.Flat.{consumed, passed_second, hearing, heard_second, stepping, carrying_to, joining, holding, stepped_second, flat_second, cut_cause, refused_or, flat, followed, Flat}

@@ -30,7 +30,8 @@ use Rattle.flight.proofs.CarriedLaws.{length_words_from}
 use Rattle.steps.specs.declared.Cut.{Cut}
 use Rattle.steps.specs.Cuts.{sites_to, down_after}
 use Rattle.arrays.specs.Layout.{finished_of, pool_slot, union_of, entry_of, tallied_at, has_at}
-use Rattle.arrays.specs.Arrays.{Arrays, with_sets, with_bytes, with_masks, with_good, with_carried, slot_set, storing, has_in, adding, byte, marked}
+use Rattle.arrays.specs.declared.Arrays.{Arrays}
+use Rattle.arrays.specs.Arrays.{with_sets, with_bytes, with_masks, with_good, with_carried, slot_set, storing, has_in, adding, byte, marked}
 use Rattle.arrays.proofs.Slots.{slot_long, has_slot}
 use Rattle.flat.specs.Flat.{consumed, passed_third, tallying, heard_third, finishing, sent_third, entering, pooled_third, concluded_third, flat_third, cut_cause, refused_or, flat, followed, Flat}
 use Rattle.machine.specs.Boards.{site_at, tally_at}

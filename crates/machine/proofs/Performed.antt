@@ -33,7 +33,8 @@ use Rattle.steps.specs.declared.Call.{Call}
 use Rattle.steps.specs.declared.Call.TheVariants.{Offer, Receive, Order, Read, Crash}
 use Rattle.steps.specs.CauseLists.{first_cause, offer_causes}
 use Rattle.arrays.specs.Layout.{pool_slot, count_at, logged_at, place_at, down_at, log_at}
-use Rattle.arrays.specs.Arrays.{Arrays, with_sets, with_bytes, slot_set, storing, has_in, dropping, byte, marked}
+use Rattle.arrays.specs.declared.Arrays.{Arrays}
+use Rattle.arrays.specs.Arrays.{with_sets, with_bytes, slot_set, storing, has_in, dropping, byte, marked}
 use Rattle.arrays.proofs.Slots.{slot_long, has_slot, remove_long, dropping_is}
 use Rattle.flat.specs.Flat.{Flat, flat, cut_cause, site_cause, flat_offer, logging, flat_order, flat_read, flat_crash, flat_perform, LogFits}
 use Rattle.machine.specs.declared.Board.{Board}

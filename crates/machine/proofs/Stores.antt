@@ -15,7 +15,8 @@ use Rattle.site.specs.declared.Site.{Site}
 use Rattle.site.specs.declared.Tally.{Tally}
 use Rattle.site.specs.Sites.{sites, site_seen, site_stepped, site_finished, site_got}
 use Rattle.arrays.specs.Layout.{seen_of, held_of, stepped_of, finished_of, got_of, pool_slot, union_of, entry_of, kind_of, have_of, slots, shown_slots}
-use Rattle.arrays.specs.Arrays.{Arrays, with_sets, slot_set, storing, adding}
+use Rattle.arrays.specs.declared.Arrays.{Arrays}
+use Rattle.arrays.specs.Arrays.{with_sets, slot_set, storing, adding}
 use Rattle.arrays.proofs.Slots.{slot_long, insert_long, slot_other, slot_same, long_stored, adding_is}
 use Rattle.views.specs.Views.{record_in, site_of, tally_of, row_of, table_of, log_of}
 use Rattle.machine.proofs.Local.{Local, local_of, Elsewhere, elsewhere_then, Long}

@@ -24,7 +24,8 @@ use Rattle.flight.specs.Flights.{words_from}
 use Rattle.steps.specs.declared.Cut.{Cut}
 use Rattle.steps.specs.Cuts.{down_after}
 use Rattle.arrays.specs.Layout.{down_at, owner_at, kind_at, from_at, into_at, tallied_at, has_at, log_at, heard_at, good_at, record_at, count_at, logged_at, place_at, delivered_at, pool_slot, entry_of}
-use Rattle.arrays.specs.Arrays.{Arrays, with_sets, with_counts, with_bytes, slot_set, storing, byte, marked}
+use Rattle.arrays.specs.declared.Arrays.{Arrays}
+use Rattle.arrays.specs.Arrays.{with_sets, with_counts, with_bytes, slot_set, storing, byte, marked}
 use Rattle.arrays.proofs.Slots.{part_ext, part_set}
 use Rattle.flat.specs.Flat.{entered, logging}
 use Rattle.machine.specs.Boards.{site_at, tally_at, entry_at, board_down, board_pool, board_table}

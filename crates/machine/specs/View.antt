@@ -8,7 +8,8 @@ use Rattle.site.specs.declared.Setup.{Setup}
 use Rattle.site.specs.Sites.{sites}
 use Rattle.flight.specs.Flights.{cells, flight_of}
 use Rattle.arrays.specs.Layout.{pool_slot, entry_of, have_of, sets_long, counts_long, down_at, bytes_long}
-use Rattle.arrays.specs.Arrays.{Arrays, slot_set, has_in, byte}
+use Rattle.arrays.specs.declared.Arrays.{Arrays}
+use Rattle.arrays.specs.Arrays.{slot_set, has_in, byte}
 use Rattle.index.specs.Index.{Indexed}
 use Rattle.views.specs.Views.{record_in, site_of, tally_of, table_of, log_of}
 use Rattle.machine.specs.declared.Board.{Board}

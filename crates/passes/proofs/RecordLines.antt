@@ -29,7 +29,7 @@ use Rattle.books.proofs.Sheets.{Line, Named, line, line_accounts, room_a, room_b
 use Rattle.site.specs.Sites.{sites}
 use Rattle.flight.proofs.CarriedLaws.{word_from, length_words_from}
 use Rattle.arrays.specs.Layout.{delivered_at, record_at}
-use Rattle.arrays.specs.Arrays.{Arrays}
+use Rattle.arrays.specs.declared.Arrays.{Arrays}
 use Rattle.views.specs.Views.{record_in, row_of, table_of}
 
 -- ---- a record that lies on arrays

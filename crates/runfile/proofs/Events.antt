@@ -8,7 +8,7 @@ use Rattle.site.specs.declared.Setup.{Setup}
 use Rattle.steps.specs.declared.Cut.{Cut}
 use Rattle.steps.specs.declared.Call.{Call}
 use Rattle.steps.specs.declared.Call.TheVariants.{Receive, Crash}
-use Rattle.arrays.specs.Arrays.{Arrays}
+use Rattle.arrays.specs.declared.Arrays.{Arrays}
 use Rattle.flat.specs.Flat.{flat_receive, flat_crash, flat_perform}
 use Rattle.decoder.specs.RunFile.{byte_at, event_count, event_at, cut_of, receive_of, call_of, call_at}
 

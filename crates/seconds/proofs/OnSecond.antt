@@ -16,7 +16,8 @@ use Rattle.flight.specs.Flights.{good_in, taking_from, sending_to, saying}
 use Rattle.steps.specs.declared.Cut.{Cut}
 use Rattle.steps.specs.Cuts.{sites_to}
 use Rattle.arrays.specs.Layout.{seen_of, stepped_of, owner_at, heard_at, good_at}
-use Rattle.arrays.specs.Arrays.{Arrays, arrays, with_bytes, with_masks, with_good, slot_set, has_in, byte, marked}
+use Rattle.arrays.specs.declared.Arrays.{Arrays}
+use Rattle.arrays.specs.Arrays.{arrays, with_bytes, with_masks, with_good, slot_set, has_in, byte, marked}
 use Rattle.index.specs.Index.{conflicts_in}
 use Rattle.flat.specs.Flat.{flat, cut_cause, consumed, passed_second, hearing, heard_second, stepping, carrying_to, holding, stepped_second, flat_second}
 use Rattle.flat.proofs.Ways.{is_refused, goes_on, not_followed, is_followed}
@@ -24,10 +25,7 @@ use Rattle.flat.proofs.Ways.{is_refused, goes_on, not_followed, is_followed}
 module _ (setup : Setup) (a : Arrays) (m from to : ℕ) (cut : Cut) where
   -- ---- without effect
 
-  module _ (why : ℕ) (bytes masks : List ℕ) where
-    abbrev gone : Arrays
-    gone = with_masks (with_bytes a bytes) masks
-
+  module _ (why : ℕ) (gone : Arrays) where
     abbrev said_bad : Arrays → Arrays
     said_bad d = with_good d (saying d.good m from (2 ^ to) false)
 
@@ -37,16 +35,13 @@ module _ (setup : Setup) (a : Arrays) (m from to : ℕ) (cut : Cut) where
 
     pub passed_done :
         (one : ℕ) (good : List ℕ) → flat why gone ≡ consumed setup a SECOND m from to cut → why ≡ 0 → one ≡ 2 ^ to
-        → good ≡ saying a.good m from one false → flat 0 (with_good gone good) ≡ passed_second setup a m from to cut
+        → good ≡ saying gone.good m from one false → flat 0 (with_good gone good) ≡ passed_second setup a m from to cut
     unfolding passed_second
     passed_done one good is z eo eg = rw (eg, eo) (is_followed why gone _ is said_bad z)
 
   -- ---- heard
 
-  module _ (heard goods why : ℕ) (bytes masks good : List ℕ) where
-    abbrev passed : Arrays
-    passed = with_good (with_masks (with_bytes a bytes) masks) good
-
+  module _ (heard goods why : ℕ) (passed : Arrays) where
     abbrev noted : Arrays → Arrays
     noted d = with_bytes d (hearing d.bytes to m heard goods)
 
@@ -55,7 +50,7 @@ module _ (setup : Setup) (a : Arrays) (m from to : ℕ) (cut : Cut) where
     heard_refused is n = not_followed why passed _ is noted n
 
     pub heard_done :
-        (bytes2 : List ℕ) → flat why passed ≡ passed_second setup a m from to cut → why ≡ 0 → bytes2 ≡ hearing bytes to m heard goods
+        (bytes2 : List ℕ) → flat why passed ≡ passed_second setup a m from to cut → why ≡ 0 → bytes2 ≡ hearing passed.bytes to m heard goods
         → flat 0 (with_bytes passed bytes2) ≡ heard_second setup a m from to heard goods cut
     unfolding heard_second
     heard_done bytes2 is z eb = rw eb (is_followed why passed _ is noted z)

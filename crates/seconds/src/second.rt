@@ -1,90 +1,82 @@
 // SECOND m received: heard; at the (n - f)th the site steps, and THIRD goes to m's owner. A late one is consumed without effect.
 // Rests on flat.
-ghost use Rattle.std.specs.Prelude.{ℕ, ◌<◌, ◌≡◌, List};
+ghost use Rattle.std.specs.Prelude.{◌<◌, ◌≡◌};
 ghost use Rattle.sets.specs.Sets.{capacity, with};
 ghost use Rattle.site.specs.Sites.{sites};
 ghost use Rattle.arrays.specs.Layout.{seen_of};
-ghost use Rattle.arrays.specs.Arrays.{arrays, slot_set, marked};
+ghost use Rattle.arrays.specs.Arrays.{slot_set, marked};
 ghost use Rattle.flight.specs.Flights.{taking_from, sending_to};
+ghost use Rattle.steps.specs.Refusals.{answer_number};
+ghost use Rattle.steps.specs.Receipts.{InRange};
 ghost use Rattle.flat.specs.Flat.{flat, passed_second, hearing, heard_second, stepping, carrying_to, joining, holding, stepped_second, flat_second};
 
 use arrays::messages::{carry, is_good, say, send, take_out};
 use arrays::{
-    BYTES, DOWN, GOOD, HEARD, HELD, OWNER, SEEN, SETS, STEPPED, add_to, has_in, load, mark, store,
+    Arrays, BYTES, DOWN, GOOD, HEARD, HELD, OWNER, SEEN, SETS, STEPPED, add_to, has_in, load, mark,
+    store,
 };
 use flat::consume;
-use flight::{LOADS, MASKS, PAIRS};
+use flight::{LOADS, MASKS};
 use index::conflicts;
 use masks::{only_site, with_site, with_site_if};
 use sets::{POSTINGS, Set};
 use site::{Setup, alone};
-use steps::Cut;
 use steps::cuts::sites_to;
-use steps::refusals::cut_refusal;
+use steps::refusals::cut_allowed;
+use steps::{Receipt, Refusal};
 
-// A SECOND without effect: its GOOD or BAD leaves with it.
-fn pass_second(
-    bytes: &mut [u8; BYTES],
-    masks: &mut [u8; MASKS],
-    good: &mut [u8; PAIRS],
-    setup: Setup,
-    m: usize,
-    from: usize,
-    to: usize,
-    cut: Cut,
-) -> u8
-    requires { (m < capacity) × (from < sites) × (to < sites) }
-    ensures { (sets counts amounts carried : List ℕ) → flat result (arrays sets counts bytes.new amounts masks.new good.new carried) ≡ passed_second setup (arrays sets counts bytes.old amounts masks.old good.old carried) m from to cut }
-{
-    let why = consume(bytes, masks, setup, 1, m, from, to, cut);
-    if why != 0 {
-        return why;
-    }
-    say(good, m, from, 1 << to, false);
-    0
+// What a site has heard for a posting: SECOND from these sites, and GOOD from these.
+#[derive(Clone, Copy)]
+struct Heard {
+    seconds: u8,
+    goods: u8,
 }
 
-// What site p has heard for m: SECOND from these sites, and GOOD from these.
-fn note_heard(bytes: &mut [u8; BYTES], p: usize, m: usize, heard: u8, goods: u8)
-    requires { (p < sites) × (m < capacity) }
-    ensures { bytes.new ≡ hearing bytes.old p m heard goods }
+// A SECOND without effect: its GOOD or BAD leaves with it.
+fn pass_second(board: &mut Arrays, setup: Setup, receipt: Receipt) -> Result<(), Refusal>
+    requires { InRange receipt }
+    ensures { flat (answer_number result) board.new ≡ passed_second setup board.old receipt.posting receipt.from receipt.to receipt.cut }
 {
-    bytes[HEARD + p * POSTINGS + m] = heard;
-    bytes[GOOD + p * POSTINGS + m] = goods;
+    consume(board, setup, 1, receipt)?;
+    say(
+        &mut board.good,
+        receipt.posting,
+        receipt.from,
+        1 << receipt.to,
+        false,
+    );
+    Ok(())
+}
+
+// What site p has heard for m.
+fn note_heard(bytes: &mut [u8; BYTES], p: usize, m: usize, heard: Heard)
+    requires { (p < sites) × (m < capacity) }
+    ensures { bytes.new ≡ hearing bytes.old p m heard.seconds heard.goods }
+{
+    bytes[HEARD + p * POSTINGS + m] = heard.seconds;
+    bytes[GOOD + p * POSTINGS + m] = heard.goods;
 }
 
 // A SECOND heard, before the (n - f)th.
 fn hear_second(
-    bytes: &mut [u8; BYTES],
-    masks: &mut [u8; MASKS],
-    good: &mut [u8; PAIRS],
+    board: &mut Arrays,
     setup: Setup,
-    m: usize,
-    from: usize,
-    to: usize,
-    heard: u8,
-    goods: u8,
-    cut: Cut,
-) -> u8
-    requires { (m < capacity) × (from < sites) × (to < sites) }
-    ensures { (sets counts amounts carried : List ℕ) → flat result (arrays sets counts bytes.new amounts masks.new good.new carried) ≡ heard_second setup (arrays sets counts bytes.old amounts masks.old good.old carried) m from to heard goods cut }
+    receipt: Receipt,
+    heard: Heard,
+) -> Result<(), Refusal>
+    requires { InRange receipt }
+    ensures { flat (answer_number result) board.new ≡ heard_second setup board.old receipt.posting receipt.from receipt.to heard.seconds heard.goods receipt.cut }
 {
-    let why = pass_second(bytes, masks, good, setup, m, from, to, cut);
-    if why != 0 {
-        return why;
-    }
-    note_heard(bytes, to, m, heard, goods);
-    0
+    pass_second(board, setup, receipt)?;
+    note_heard(&mut board.bytes, receipt.to, receipt.posting, heard);
+    Ok(())
 }
 
 // Whether m joins held: more than n/2 of those heard are GOOD, and seen meets C(m) in m alone.
-fn joins_held(setup: Setup, seen: Set, against: Set, m: usize, heard: u8, goods: u8) -> bool
-    ensures { result ≡ joining setup seen against m heard goods }
+fn joins_held(setup: Setup, seen: Set, against: Set, m: usize, heard: Heard) -> bool
+    ensures { result ≡ joining setup seen against m heard.seconds heard.goods }
 {
-    if setup.majority(goods & heard) {
-        return alone(seen, against, m);
-    }
-    false
+    setup.majority(heard.goods & heard.seconds) && alone(seen, against, m)
 }
 
 // The sets of a site that steps: m joins seen and stepped, and held if it may. It gives held.
@@ -93,17 +85,16 @@ fn step_sets(
     setup: Setup,
     p: usize,
     m: usize,
-    heard: u8,
-    goods: u8,
+    heard: Heard,
     against: Set,
 ) -> Set
     requires { (p < sites) × (m < capacity) }
-    ensures value { result ≡ holding setup words.old p m heard goods against }
+    ensures value { result ≡ holding setup words.old p m heard.seconds heard.goods against }
     ensures words_after { words.new ≡ stepping words.old p m (with (slot_set words.old (seen_of p)) m) result }
 {
     let old = load(words, SEEN + p);
     let seen = old.with(m);
-    let joins = joins_held(setup, seen, against, m, heard, goods);
+    let joins = joins_held(setup, seen, against, m, heard);
     let kept = load(words, HELD + p);
     let held = kept.with_if(m, joins);
     store(words, SEEN + p, seen);
@@ -127,85 +118,78 @@ fn carry_to(carried: &mut [u64; LOADS], m: usize, from: usize, receivers: u8, lo
 fn pass_on(
     bytes: &mut [u8; BYTES],
     masks: &mut [u8; MASKS],
-    m: usize,
-    from: usize,
-    to: usize,
-    heard: u8,
-    goods: u8,
+    receipt: Receipt,
+    heard: Heard,
     receivers: u8,
-    cut: Cut,
 )
-    requires { (m < capacity) × (from < sites) × (to < sites) }
-    ensures bytes_after { bytes.new ≡ marked (hearing bytes.old to m heard goods) to cut }
-    ensures masks_after { masks.new ≡ sending_to (taking_from masks.old 1 m from to) 2 m to receivers }
+    requires { InRange receipt }
+    ensures bytes_after { bytes.new ≡ marked (hearing bytes.old receipt.to receipt.posting heard.seconds heard.goods) receipt.to receipt.cut }
+    ensures masks_after { masks.new ≡ sending_to (taking_from masks.old 1 receipt.posting receipt.from receipt.to) 2 receipt.posting receipt.to receivers }
 {
-    note_heard(bytes, to, m, heard, goods);
+    let Receipt {
+        posting,
+        from,
+        to,
+        cut,
+    } = receipt;
+    note_heard(bytes, to, posting, heard);
     mark(bytes, to, cut);
-    take_out(masks, 1, m, from, to);
-    send(masks, 2, m, to, receivers);
+    take_out(masks, 1, posting, from, to);
+    send(masks, 2, posting, to, receivers);
 }
 
 // A SECOND heard, the (n - f)th: m joins seen and stepped, and held if it may; THIRD goes to the owner.
 fn step_second(
-    words: &mut [u64; SETS],
-    bytes: &mut [u8; BYTES],
-    masks: &mut [u8; MASKS],
-    good: &mut [u8; PAIRS],
-    carried: &mut [u64; LOADS],
+    board: &mut Arrays,
     setup: Setup,
-    m: usize,
-    from: usize,
-    to: usize,
-    heard: u8,
-    goods: u8,
-    cut: Cut,
-) -> u8
-    requires { (m < capacity) × (from < sites) × (to < sites) }
-    ensures { (counts amounts : List ℕ) → flat result (arrays words.new counts bytes.new amounts masks.new good.new carried.new) ≡ stepped_second setup (arrays words.old counts bytes.old amounts masks.old good.old carried.old) m from to heard goods cut }
+    receipt: Receipt,
+    heard: Heard,
+) -> Result<(), Refusal>
+    requires { InRange receipt }
+    ensures { flat (answer_number result) board.new ≡ stepped_second setup board.old receipt.posting receipt.from receipt.to heard.seconds heard.goods receipt.cut }
 {
-    let all = only_site(bytes[OWNER + m]);
-    let down = bytes[DOWN];
-    let why = cut_refusal(setup.f, down, all, cut);
-    if why != 0 {
-        return why;
-    }
-    let against = conflicts(words, bytes, setup.matrix, m);
+    let Receipt {
+        posting: m,
+        from,
+        to,
+        cut,
+    } = receipt;
+    let all = only_site(board.bytes[OWNER + m]);
+    cut_allowed(setup.f, board.bytes[DOWN], all, cut)?;
+    let against = conflicts(&board.sets, &board.bytes, setup.matrix, m);
     let receivers = sites_to(all, cut);
-    let held = step_sets(words, setup, to, m, heard, goods, against);
+    let held = step_sets(&mut board.sets, setup, to, m, heard, against);
     let share = held.meet(against);
-    carry_to(carried, m, to, receivers, share);
-    say(good, m, from, 1 << to, false);
-    pass_on(bytes, masks, m, from, to, heard, goods, receivers, cut);
-    0
+    carry_to(&mut board.carried, m, to, receivers, share);
+    say(&mut board.good, m, from, 1 << to, false);
+    pass_on(
+        &mut board.bytes,
+        &mut board.masks,
+        receipt,
+        heard,
+        receivers,
+    );
+    Ok(())
 }
 
-pub fn on_second(
-    words: &mut [u64; SETS],
-    bytes: &mut [u8; BYTES],
-    masks: &mut [u8; MASKS],
-    good: &mut [u8; PAIRS],
-    carried: &mut [u64; LOADS],
-    setup: Setup,
-    m: usize,
-    from: usize,
-    to: usize,
-    cut: Cut,
-) -> u8
-    requires { (m < capacity) × (from < sites) × (to < sites) }
-    ensures { (counts amounts : List ℕ) → flat result (arrays words.new counts bytes.new amounts masks.new good.new carried.new) ≡ flat_second setup (arrays words.old counts bytes.old amounts masks.old good.old carried.old) m from to cut }
+pub fn on_second(board: &mut Arrays, setup: Setup, receipt: Receipt) -> Result<(), Refusal>
+    requires { InRange receipt }
+    ensures { flat (answer_number result) board.new ≡ flat_second setup board.old receipt.posting receipt.from receipt.to receipt.cut }
 {
-    let known = bytes[HEARD + to * POSTINGS + m];
-    let done = has_in(words, STEPPED + to, m);
-    if setup.late(known, from as u8, done) {
-        return pass_second(bytes, masks, good, setup, m, from, to, cut);
+    let m = receipt.posting;
+    let from = receipt.from as u8;
+    let to = receipt.to;
+    let known = board.bytes[HEARD + to * POSTINGS + m];
+    let done = has_in(&board.sets, STEPPED + to, m);
+    if setup.late(known, from, done) {
+        return pass_second(board, setup, receipt);
     }
-    let heard = with_site(known, from as u8);
-    let so = is_good(good, m, from, to);
-    let goods = with_site_if(bytes[GOOD + to * POSTINGS + m], from as u8, so);
-    if setup.reached(heard) {
-        return step_second(
-            words, bytes, masks, good, carried, setup, m, from, to, heard, goods, cut,
-        );
+    let seconds = with_site(known, from);
+    let so = is_good(&board.good, m, receipt.from, to);
+    let goods = with_site_if(board.bytes[GOOD + to * POSTINGS + m], from, so);
+    let heard = Heard { seconds, goods };
+    if setup.reached(seconds) {
+        return step_second(board, setup, receipt, heard);
     }
-    hear_second(bytes, masks, good, setup, m, from, to, heard, goods, cut)
+    hear_second(board, setup, receipt, heard)
 }

@@ -11,7 +11,8 @@ use lib.ListN.{length, take, drop}
 use borrow.Author.Tests.{ne_eqb, le-ltb}
 use Rattle.site.specs.declared.Setup.{Setup}
 use Rattle.arrays.specs.Layout.{down_at}
-use Rattle.arrays.specs.Arrays.{Arrays, byte}
+use Rattle.arrays.specs.declared.Arrays.{Arrays}
+use Rattle.arrays.specs.Arrays.{byte}
 use Rattle.machine.specs.declared.Answer.{Answer}
 use Rattle.machine.specs.declared.Board.{Board}
 use Rattle.machine.specs.Boards.{fresh_board}

@@ -18,7 +18,8 @@ use Rattle.flight.specs.Flights.{set_in, taking_from, sending_to, carrying}
 use Rattle.steps.specs.declared.Cut.{Cut}
 use Rattle.steps.specs.Cuts.{sites_to}
 use Rattle.arrays.specs.Layout.{finished_of, pool_slot, union_of, entry_of, tallied_at, has_at}
-use Rattle.arrays.specs.Arrays.{Arrays, arrays, with_sets, with_bytes, with_masks, with_carried, slot_set, storing, has_in, adding, byte, marked}
+use Rattle.arrays.specs.declared.Arrays.{Arrays}
+use Rattle.arrays.specs.Arrays.{arrays, with_sets, with_bytes, with_masks, with_carried, slot_set, storing, has_in, adding, byte, marked}
 use Rattle.flat.specs.Flat.{flat, cut_cause, consumed, passed_third, tallying, heard_third, finishing, sent_third, entering, pooled_third, concluded_third, flat_third}
 use Rattle.flat.proofs.Ways.{is_refused, goes_on, not_followed, is_followed}
 
@@ -49,10 +50,7 @@ module _ (a : Arrays) (m from to heard holders : ℕ) (union : Set) (cut : Cut) 
 module _ (setup : Setup) (a : Arrays) (m from to : ℕ) (cut : Cut) where
   -- ---- without effect
 
-  module _ (why : ℕ) (bytes masks : List ℕ) where
-    abbrev gone : Arrays
-    gone = with_masks (with_bytes a bytes) masks
-
+  module _ (why : ℕ) (gone : Arrays) where
     abbrev emptied : Arrays → Arrays
     emptied d = with_carried d (carrying d.carried m from empty_set)
 
@@ -62,17 +60,14 @@ module _ (setup : Setup) (a : Arrays) (m from to : ℕ) (cut : Cut) where
 
     pub passed_done :
         (none : Set) (carried : List ℕ) → flat why gone ≡ consumed setup a THIRD m from to cut → why ≡ 0 → none ≡ empty_set
-        → carried ≡ carrying a.carried m from none → flat 0 (with_carried gone carried) ≡ passed_third setup a m from to cut
+        → carried ≡ carrying gone.carried m from none → flat 0 (with_carried gone carried) ≡ passed_third setup a m from to cut
     unfolding passed_third
     passed_done none carried is z en ec = rw (ec, en) (is_followed why gone _ is emptied z)
 
   module _ (heard holders : ℕ) (union : Set) where
     -- ---- heard
 
-    module _ (why : ℕ) (bytes masks carried : List ℕ) where
-      abbrev passed : Arrays
-      passed = with_carried (with_masks (with_bytes a bytes) masks) carried
-
+    module _ (why : ℕ) (passed : Arrays) where
       abbrev noted : Arrays → Arrays
       noted d = with_sets (with_bytes d (tallying d.bytes m heard holders)) (storing d.sets (union_of m) union)
 
@@ -82,16 +77,13 @@ module _ (setup : Setup) (a : Arrays) (m from to : ℕ) (cut : Cut) where
       heard_refused is n = not_followed why passed _ is noted n
 
       pub heard_done :
-          (sets bytes2 : List ℕ) → flat why passed ≡ passed_third setup a m from to cut → why ≡ 0 → bytes2 ≡ tallying bytes m heard holders
-          → sets ≡ storing a.sets (union_of m) union
+          (sets bytes2 : List ℕ) → flat why passed ≡ passed_third setup a m from to cut → why ≡ 0 → bytes2 ≡ tallying passed.bytes m heard holders
+          → sets ≡ storing passed.sets (union_of m) union
           → flat 0 (with_sets (with_bytes passed bytes2) sets) ≡ heard_third setup a m from to heard holders union cut
       unfolding heard_third
       heard_done sets bytes2 is z eb es = rw (eb, es) (is_followed why passed _ is noted z)
 
     -- ---- finished
-
-    abbrev finished : List ℕ → List ℕ → List ℕ → List ℕ → Arrays
-    finished sets bytes masks carried = arrays sets a.counts bytes a.amounts masks a.good carried
 
     -- DELIVER goes to all
     module _ (all why : ℕ) (is_all : all ≡ every_site setup.n) (is-why : why ≡ cut_cause setup a.bytes all cut) where
@@ -106,13 +98,13 @@ module _ (setup : Setup) (a : Arrays) (m from to : ℕ) (cut : Cut) where
       sent_refused n = is_refused why _ cause a _ n
 
       pub sent_done :
-          (receivers : ℕ) (sets bytes taken masks carried : List ℕ) → why ≡ 0 → receivers ≡ sites_to all cut
-          → finished sets bytes taken carried ≡ finishing a m from to heard holders union cut → masks ≡ sending_to taken DELIVER m to receivers
-          → flat 0 (finished sets bytes masks carried) ≡ sent_third setup a m from to heard holders union cut
+          (receivers : ℕ) (d : Arrays) (masks : List ℕ) → why ≡ 0 → receivers ≡ sites_to all cut
+          → d ≡ finishing a m from to heard holders union cut → masks ≡ sending_to d.masks DELIVER m to receivers
+          → flat 0 (with_masks d masks) ≡ sent_third setup a m from to heard holders union cut
       unfolding sent_third
-      sent_done receivers sets bytes taken masks carried z er is em =
+      sent_done receivers d masks z er is em =
           rw (em, er, is_all)
-          (ap (λ (d : Arrays). flat 0 (sent d)) is ∙ goes_on why _ cause a (flat 0 (sent (finishing a m from to heard holders union cut))) z)
+          (ap (λ (x : Arrays). flat 0 (sent x)) is ∙ goes_on why _ cause a (flat 0 (sent (finishing a m from to heard holders union cut))) z)
 
     -- m's entry goes into the pool
     module _ (why : ℕ) (is-why : why ≡ cut_cause setup a.bytes 1 cut) where
@@ -124,13 +116,13 @@ module _ (setup : Setup) (a : Arrays) (m from to : ℕ) (cut : Cut) where
       pooled_refused n = is_refused why _ is-why a _ n
 
       pub pooled_done :
-          (receivers : ℕ) (added sets bytes masks carried : List ℕ) → why ≡ 0 → receivers ≡ sites_to 1 cut
-          → finished added bytes masks carried ≡ finishing a m from to heard holders union cut → sets ≡ entering added m receivers union
-          → flat 0 (finished sets bytes masks carried) ≡ pooled_third setup a m from to heard holders union cut
+          (receivers : ℕ) (d : Arrays) (sets : List ℕ) → why ≡ 0 → receivers ≡ sites_to 1 cut
+          → d ≡ finishing a m from to heard holders union cut → sets ≡ entering d.sets m receivers union
+          → flat 0 (with_sets d sets) ≡ pooled_third setup a m from to heard holders union cut
       unfolding pooled_third
-      pooled_done receivers added sets bytes masks carried z er is es =
+      pooled_done receivers d sets z er is es =
           rw (es, er)
-          (ap (λ (d : Arrays). flat 0 (pooled d)) is ∙ goes_on why _ is-why a (flat 0 (pooled (finishing a m from to heard holders union cut))) z)
+          (ap (λ (x : Arrays). flat 0 (pooled x)) is ∙ goes_on why _ is-why a (flat 0 (pooled (finishing a m from to heard holders union cut))) z)
 
     -- ---- not late
 

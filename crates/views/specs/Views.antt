@@ -10,7 +10,8 @@ use Rattle.site.specs.declared.Site.{Site}
 use Rattle.site.specs.declared.Tally.{Tally}
 use Rattle.flight.specs.Flights.{words_from}
 use Rattle.arrays.specs.Layout.{seen_of, held_of, stepped_of, finished_of, got_of, union_of, count_at, logged_at, place_at, delivered_at, owner_at, kind_at, from_at, into_at, tallied_at, has_at, log_at, heard_at, good_at, record_at}
-use Rattle.arrays.specs.Arrays.{Arrays, slot_set, byte}
+use Rattle.arrays.specs.declared.Arrays.{Arrays}
+use Rattle.arrays.specs.Arrays.{slot_set, byte}
 
 -- the record of site p
 unfoldable pub record_in : Arrays → ℕ → Record

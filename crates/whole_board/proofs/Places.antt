@@ -15,7 +15,7 @@ use Rattle.site.specs.declared.Setup.{Setup}
 use Rattle.site.specs.declared.Site.{Site}
 use Rattle.site.specs.Sites.{sites, no_site}
 use Rattle.arrays.specs.Layout.{place_at, logged_at, counts_long}
-use Rattle.arrays.specs.Arrays.{Arrays}
+use Rattle.arrays.specs.declared.Arrays.{Arrays}
 use Rattle.machine.specs.Boards.{site_at}
 use Rattle.machine.specs.QuietParts.{place_in, PlacesOf}
 use Rattle.views.specs.Views.{site_of, log_of}

@@ -20,7 +20,8 @@ use Rattle.posting.specs.Kinds.{accounts}
 use Rattle.site.specs.declared.Site.{Site}
 use Rattle.site.specs.declared.Setup.{Setup}
 use Rattle.site.specs.Sites.{sites, no_site}
-use Rattle.arrays.specs.Arrays.{Arrays, arrays}
+use Rattle.arrays.specs.declared.Arrays.{Arrays}
+use Rattle.arrays.specs.Arrays.{arrays}
 use Rattle.flight.specs.Flights.{cells}
 use Rattle.books.specs.declared.Sheet.{Sheet}
 use Rattle.books.specs.declared.Records.{Records}

@@ -1,16 +1,9 @@
 -- `deliver_to` meets its contract.
 -- Assumes nothing.
-use Rattle.delivery.specs.Delivery.{laid}
-use Rattle.delivers.proofs.OnDeliver.{delivers_whole, delivers_cut}
 use Rattle.delivers.proofs.deliver_to.Goals as goal
 
 pub returns-in-Whole : goal.returns-in-Whole
-returns-in-Whole c =
-    let a = c.args in
-    delivers_whole (laid a.words.now a.counts.now a.bytes.now) _ a.p a.m a.cut c.in-Whole.is
-    c.deliver.ensures
+returns-in-Whole c = rw c.in-Whole.is c.deliver.ensures
 
 pub returns-in-After : goal.returns-in-After
-returns-in-After c =
-    let a = c.args in
-    delivers_cut (laid a.words.now a.counts.now a.bytes.now) a.p a.m _ a.cut c.in-After.is
+returns-in-After c = rw c.in-After.is

@@ -1,29 +1,25 @@
 -- `on_first` meets its contract.
 -- Assumes nothing.
-use Rattle.arrays.specs.Arrays.{arrays}
+use mathlib.Core.Path.{◌≡◌, refl}
+use borrow.Author.Rules.{rules}
+use Rattle.std.proofs.Common.{Err}
+use Rattle.steps.proofs.Numbers.{is_refusal}
 use Rattle.firsts.proofs.OnFirst.{first_refused, first_done}
 use Rattle.firsts.proofs.on_first.Goals as goal
 
-pub returns-then-why-ne0 : goal.returns-then-why-ne0
-returns-then-why-ne0 c =
+pub returns-in_err-cut_allowed : goal.returns-in_err-cut_allowed
+returns-in_err-cut_allowed c =
     let a = c.args in
-    λ counts amounts carried.
-    first_refused a.setup (arrays a.words.now counts a.bytes.now amounts a.masks.now a.good.now carried) a.m a.from a.to a.cut _ _
-    c.every_site-all.ensures c.cut_refusal-why.ensures c.if-why-ne0.true
-
-pub say-requires : goal.say-requires
-say-requires c =
-    let p = c.requires in
-    (p.0, p.2)
-
-pub mark-requires : goal.mark-requires
-mark-requires c = c.requires.2
+    let r = a.receipt in
+    let why = c.in_err-cut_allowed.field-0.0 in
+    let e : c.from_residual.result ≡ Err why = search rules in
+    rw e (first_refused a.setup a.board.now r.posting r.from r.to r.cut _ _ c.every_site-all.ensures c.in_err-cut_allowed.ensures (is_refusal why))
 
 pub returns : goal.returns
 returns c =
     let a = c.args in
-    λ counts amounts carried.
-    first_done a.setup (arrays a.words.now counts a.bytes.now amounts a.masks.now a.good.now carried) a.m a.from a.to a.cut _ _
-    c.every_site-all.ensures c.cut_refusal-why.ensures _ _ _ _ _ _ _ _ _ _ c.if-why-ne0.false c.conflicts-against.ensures c.load-old.ensures
+    let r = a.receipt in
+    first_done a.setup a.board.now r.posting r.from r.to r.cut _ _
+    c.every_site-all.ensures c.in_ok-cut_allowed.ensures _ _ _ _ _ _ _ _ _ _ refl c.conflicts-against.ensures c.load-old.ensures
     c.with-seen.ensures c.alone-so.ensures c.sites_to-receivers.ensures c.store.ensures c.take_out.ensures c.send.ensures
     c.say.ensures c.mark.ensures

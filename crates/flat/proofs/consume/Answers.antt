@@ -1,15 +1,20 @@
 -- `consume` meets its contract.
 -- Assumes nothing.
+use mathlib.Core.Path.{◌≡◌, refl}
+use borrow.Author.Rules.{rules}
+use Rattle.std.proofs.Common.{Err}
+use Rattle.steps.proofs.Numbers.{is_refusal}
 use Rattle.flat.specs.Flat.{consumed}
 use Rattle.flat.proofs.Ways.{is_refused, goes_on}
 use Rattle.flat.proofs.consume.Goals as goal
 
-pub returns-then-why-ne0 : goal.returns-then-why-ne0
+pub returns-in_err-cut_allowed : goal.returns-in_err-cut_allowed
 unfolding consumed
-returns-then-why-ne0 c = λ sets counts amounts good carried. is_refused _ _ c.cut_refusal-why.ensures _ _ c.if-why-ne0.true
+returns-in_err-cut_allowed c =
+    let why = c.in_err-cut_allowed.field-0.0 in
+    let e : c.from_residual.result ≡ Err why = search rules in
+    rw e (is_refused _ _ c.in_err-cut_allowed.ensures _ _ (is_refusal why))
 
 pub returns : goal.returns
 unfolding consumed
-returns c = λ sets counts amounts good carried.
-    rw (c.mark.ensures, c.take_out.ensures)
-    (goes_on _ _ c.cut_refusal-why.ensures _ _ c.if-why-ne0.false)
+returns c = rw (c.mark.ensures, c.take_out.ensures) (goes_on _ _ c.in_ok-cut_allowed.ensures _ _ refl)

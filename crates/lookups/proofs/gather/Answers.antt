@@ -8,7 +8,8 @@ use lib.ListN.{length}
 use borrow.Author.Rules.{rules}
 use Rattle.sets.specs.Masks.{has_bit}
 use Rattle.site.specs.Sites.{sites}
-use Rattle.arrays.specs.Arrays.{Arrays, arrays}
+use Rattle.arrays.specs.declared.Arrays.{Arrays}
+use Rattle.arrays.specs.Arrays.{arrays}
 use Rattle.lookup_pairs.specs.Pairs.{visited_to}
 use Rattle.lookups.specs.Gathering.{places_at, numbers_at, Gathered}
 use Rattle.lookups.proofs.Blocks.{length_at, length_more, gathered_more, visited_more, places_most}

@@ -13,7 +13,8 @@ use Rattle.books.specs.Books.{books, sheet_of}
 use Rattle.books.specs.declared.Sheet.{Sheet}
 use Rattle.books.specs.Bounds.{Postable}
 use Rattle.books.proofs.Sheets.{Line, line_roomy, line_nets_all}
-use Rattle.arrays.specs.Arrays.{Arrays, arrays}
+use Rattle.arrays.specs.declared.Arrays.{Arrays}
+use Rattle.arrays.specs.Arrays.{arrays}
 use Rattle.views.specs.Views.{record_in, table_of}
 use Rattle.passes.proofs.RecordLines.{books_to, count_few, places_are, below, line_here, trade_accounts, trade_room_a, trade_room_b, trade_line, one_account, one_room, one_line}
 use Rattle.passes.proofs.pass_at.Goals as goal

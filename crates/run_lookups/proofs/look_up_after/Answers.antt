@@ -8,7 +8,8 @@ use native.Mathlib.Omega.{arith}
 use lib.ListN.{replicate, length-replicate}
 use Rattle.site.specs.declared.Setup.{Setup}
 use Rattle.steps.specs.declared.Call.{Call}
-use Rattle.arrays.specs.Arrays.{Arrays, arrays}
+use Rattle.arrays.specs.declared.Arrays.{Arrays}
+use Rattle.arrays.specs.Arrays.{arrays}
 use Rattle.machine.specs.Boards.{fresh_board}
 use Rattle.machine.specs.Soundness.{is_sound}
 use Rattle.machine.specs.Runs.{running}

@@ -1,67 +1,75 @@
 -- `receive` meets its contract.
 -- Assumes nothing.
-use mathlib.Core.Path.{sym, ◌∙◌}
-use Rattle.arrays.specs.Arrays.{arrays}
-use Rattle.events.proofs.OnReceive.{in_place, receive_refused, receive_none, is_first, is_second, is_third, is_deliver}
+use mathlib.Core.Path.{◌≡◌, refl, sym, ◌∙◌}
+use borrow.Author.Rules.{rules}
+use Rattle.std.proofs.Common.{Err}
+use Rattle.steps.proofs.Numbers.{is_refusal}
+use native.Mathlib.Omega.{arith}
 use Rattle.calls.proofs.Passed.{message_below}
+use Rattle.events.proofs.OnReceive.{in_place, receive_refused, receive_none, is_first, is_second, is_third, is_deliver}
 use Rattle.events.proofs.receipts.receive.Goals as goal
 
-pub message_refusal-why-requires : goal.message_refusal-why-requires
-message_refusal-why-requires c = c.requires
-
-pub returns-then-why-ne0 : goal.returns-then-why-ne0
-returns-then-why-ne0 c =
-    λ amounts.
-    let g = c.args in
-    let a = arrays g.words.now g.counts.now g.bytes.now amounts g.masks.now g.good.now g.carried.now in
-    receive_refused g.setup a g.form g.m g.from g.to g.cut _ c.message_refusal-why.ensures c.if-why-ne0.true
+pub returns-in_err-message_arrives : goal.returns-in_err-message_arrives
+returns-in_err-message_arrives c =
+    let a = c.args in
+    let r = a.receipt in
+    let why = c.in_err-message_arrives.field-0.0 in
+    let e : c.from_residual.result ≡ Err why = search rules in
+    rw e (receive_refused a.setup a.board.now a.form r.posting r.from r.to r.cut _ c.in_err-message_arrives.ensures (is_refusal why))
 
 pub is_sent-requires : goal.is_sent-requires
-is_sent-requires c = message_below _ _ _ _ _ c.requires c.message_refusal-why.ensures c.if-why-ne0.false
+is_sent-requires c = message_below _ _ _ _ _ c.requires c.in_ok-message_arrives.ensures refl
+
+pub returns-then-not-is_sent : goal.returns-then-not-is_sent
+returns-then-not-is_sent c =
+    let a = c.args in
+    let r = a.receipt in
+    receive_none a.setup a.board.now a.form r.posting r.from r.to r.cut _ c.in_ok-message_arrives.ensures refl (sym c.is_sent.ensures ∙ c.if-not-is_sent.true)
 
 pub on_first-requires : goal.on_first-requires
-on_first-requires c = let g = c.args in in_place g.masks.now g.form g.m g.from g.to (sym c.is_sent.ensures ∙ c.if-is_sent.true)
+on_first-requires c =
+    let a = c.args in
+    let r = a.receipt in
+    in_place a.board.now.masks a.form r.posting r.from r.to (sym c.is_sent.ensures ∙ c.if-not-is_sent.false)
 
-pub returns-then-form-eq0 : goal.returns-then-form-eq0
-returns-then-form-eq0 c =
-    λ amounts.
-    let g = c.args in
-    let a = arrays g.words.now g.counts.now g.bytes.now amounts g.masks.now g.good.now g.carried.now in
-    rw (is_first g.setup a g.form g.m g.from g.to g.cut _ c.message_refusal-why.ensures c.if-why-ne0.false (sym c.is_sent.ensures ∙ c.if-is_sent.true) c.if-form-eq0.true) (c.on_first.ensures g.counts.now amounts g.carried.now)
+pub returns-in-0 : goal.returns-in-0
+returns-in-0 c =
+    let a = c.args in
+    let r = a.receipt in
+    rw (is_first a.setup a.board.now a.form r.posting r.from r.to r.cut _ c.in_ok-message_arrives.ensures refl (sym c.is_sent.ensures ∙ c.if-not-is_sent.false) c.in-0.is) c.on_first.ensures
 
 pub on_second-requires : goal.on_second-requires
-on_second-requires c = let g = c.args in in_place g.masks.now g.form g.m g.from g.to (sym c.is_sent.ensures ∙ c.if-is_sent.true)
+on_second-requires c =
+    let a = c.args in
+    let r = a.receipt in
+    in_place a.board.now.masks a.form r.posting r.from r.to (sym c.is_sent.ensures ∙ c.if-not-is_sent.false)
 
-pub returns-then-form-eq1 : goal.returns-then-form-eq1
-returns-then-form-eq1 c =
-    λ amounts.
-    let g = c.args in
-    let a = arrays g.words.now g.counts.now g.bytes.now amounts g.masks.now g.good.now g.carried.now in
-    rw (is_second g.setup a g.form g.m g.from g.to g.cut _ c.message_refusal-why.ensures c.if-why-ne0.false (sym c.is_sent.ensures ∙ c.if-is_sent.true) c.if-form-eq1.true) (c.on_second.ensures g.counts.now amounts)
+pub returns-in-1 : goal.returns-in-1
+returns-in-1 c =
+    let a = c.args in
+    let r = a.receipt in
+    rw (is_second a.setup a.board.now a.form r.posting r.from r.to r.cut _ c.in_ok-message_arrives.ensures refl (sym c.is_sent.ensures ∙ c.if-not-is_sent.false) c.in-1.is) c.on_second.ensures
 
 pub on_third-requires : goal.on_third-requires
-on_third-requires c = let g = c.args in in_place g.masks.now g.form g.m g.from g.to (sym c.is_sent.ensures ∙ c.if-is_sent.true)
+on_third-requires c =
+    let a = c.args in
+    let r = a.receipt in
+    in_place a.board.now.masks a.form r.posting r.from r.to (sym c.is_sent.ensures ∙ c.if-not-is_sent.false)
 
-pub returns-then-form-eq2 : goal.returns-then-form-eq2
-returns-then-form-eq2 c =
-    λ amounts.
-    let g = c.args in
-    let a = arrays g.words.now g.counts.now g.bytes.now amounts g.masks.now g.good.now g.carried.now in
-    rw (is_third g.setup a g.form g.m g.from g.to g.cut _ c.message_refusal-why.ensures c.if-why-ne0.false (sym c.is_sent.ensures ∙ c.if-is_sent.true) c.if-form-eq2.true) (c.on_third.ensures g.counts.now amounts g.good.now)
+pub returns-in-2 : goal.returns-in-2
+returns-in-2 c =
+    let a = c.args in
+    let r = a.receipt in
+    rw (is_third a.setup a.board.now a.form r.posting r.from r.to r.cut _ c.in_ok-message_arrives.ensures refl (sym c.is_sent.ensures ∙ c.if-not-is_sent.false) c.in-2.is) c.on_third.ensures
 
 pub on_deliver-requires : goal.on_deliver-requires
-on_deliver-requires c = let g = c.args in in_place g.masks.now g.form g.m g.from g.to (sym c.is_sent.ensures ∙ c.if-is_sent.true)
+on_deliver-requires c =
+    let a = c.args in
+    let r = a.receipt in
+    in_place a.board.now.masks a.form r.posting r.from r.to (sym c.is_sent.ensures ∙ c.if-not-is_sent.false)
 
-pub returns-then-is_sent : goal.returns-then-is_sent
-returns-then-is_sent c =
-    λ amounts.
-    let g = c.args in
-    let a = arrays g.words.now g.counts.now g.bytes.now amounts g.masks.now g.good.now g.carried.now in
-    rw (is_deliver g.setup a g.form g.m g.from g.to g.cut _ c.message_refusal-why.ensures c.if-why-ne0.false (sym c.is_sent.ensures ∙ c.if-is_sent.true) c.if-form-eq0.false c.if-form-eq1.false c.if-form-eq2.false) (c.on_deliver.ensures amounts g.good.now g.carried.now)
-
-pub returns : goal.returns
-returns c =
-    λ amounts.
-    let g = c.args in
-    let a = arrays g.words.now g.counts.now g.bytes.now amounts g.masks.now g.good.now g.carried.now in
-    receive_none g.setup a g.form g.m g.from g.to g.cut _ c.message_refusal-why.ensures c.if-why-ne0.false (sym c.is_sent.ensures ∙ c.if-is_sent.false)
+pub returns-in_default : goal.returns-in_default
+returns-in_default c =
+    let a = c.args in
+    let r = a.receipt in
+    rw (is_deliver a.setup a.board.now a.form r.posting r.from r.to r.cut _ c.in_ok-message_arrives.ensures refl (sym c.is_sent.ensures ∙ c.if-not-is_sent.false) (omega arith) (omega arith) (omega arith)) c.on_deliver.ensures

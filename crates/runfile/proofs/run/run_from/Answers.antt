@@ -8,7 +8,8 @@ use mathlib.Core.List.{List}
 use lib.ListN.{length, take, replicate, length-replicate}
 use lib.Seq.{length-take-le}
 use Rattle.site.specs.declared.Setup.{Setup}
-use Rattle.arrays.specs.Arrays.{Arrays, arrays}
+use Rattle.arrays.specs.declared.Arrays.{Arrays}
+use Rattle.arrays.specs.Arrays.{arrays}
 use Rattle.machine.specs.Boards.{fresh_board}
 use Rattle.machine.specs.Soundness.{is_sound}
 use Rattle.machine.specs.Runs.{running}

@@ -1,19 +1,23 @@
 -- `hear_second` meets its contract.
 -- Assumes nothing.
-use Rattle.arrays.specs.Arrays.{arrays}
+use mathlib.Core.Path.{◌≡◌, refl}
+use borrow.Author.Rules.{rules}
+use Rattle.std.proofs.Common.{Err}
+use Rattle.steps.proofs.Numbers.{is_refusal}
 use Rattle.seconds.proofs.OnSecond.{heard_refused, heard_done}
 use Rattle.seconds.proofs.second.hear_second.Goals as goal
 
-pub returns-then-why-ne0 : goal.returns-then-why-ne0
-returns-then-why-ne0 c =
+pub returns-in_err-pass_second : goal.returns-in_err-pass_second
+returns-in_err-pass_second c =
     let a = c.args in
-    λ sets counts amounts carried.
-    heard_refused a.setup (arrays sets counts a.bytes.now amounts a.masks.now a.good.now carried) a.m a.from a.to a.cut
-    a.heard a.goods _ _ _ _ (c.pass_second-why.ensures sets counts amounts carried) c.if-why-ne0.true
+    let r = a.receipt in
+    let why = c.in_err-pass_second.field-0.0 in
+    let e : c.from_residual.result ≡ Err why = search rules in
+    rw e (heard_refused a.setup a.board.now r.posting r.from r.to r.cut a.heard.seconds a.heard.goods _ _ c.in_err-pass_second.ensures (is_refusal why))
 
 pub returns : goal.returns
 returns c =
     let a = c.args in
-    λ sets counts amounts carried.
-    heard_done a.setup (arrays sets counts a.bytes.now amounts a.masks.now a.good.now carried) a.m a.from a.to a.cut
-    a.heard a.goods _ _ _ _ _ (c.pass_second-why.ensures sets counts amounts carried) c.if-why-ne0.false c.note_heard.ensures
+    let r = a.receipt in
+    heard_done a.setup a.board.now r.posting r.from r.to r.cut a.heard.seconds a.heard.goods _ c.pass_second.new.board _
+    c.in_ok-pass_second.ensures refl c.note_heard.ensures

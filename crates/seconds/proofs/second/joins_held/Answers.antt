@@ -8,6 +8,6 @@ pub returns-then-majority : goal.returns-then-majority
 unfolding joining
 returns-then-majority c = rw (sym c.majority.ensures, c.if-majority.true) c.alone.ensures
 
-pub returns : goal.returns
+pub returns-else-majority : goal.returns-else-majority
 unfolding joining
-returns c = rw (sym c.majority.ensures, c.if-majority.false)
+returns-else-majority c = rw (sym c.majority.ensures, c.if-majority.false)

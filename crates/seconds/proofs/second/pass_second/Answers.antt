@@ -1,22 +1,25 @@
 -- `pass_second` meets its contract.
 -- Assumes nothing.
+use mathlib.Core.Path.{◌≡◌, refl}
+use borrow.Author.Rules.{rules}
+use Rattle.std.proofs.Common.{Err}
+use Rattle.steps.proofs.Numbers.{is_refusal}
 use native.Mathlib.Omega.{arith}
 use Rattle.sets.proofs.MaskLaws.{one_shl}
-use Rattle.arrays.specs.Arrays.{arrays}
 use Rattle.seconds.proofs.OnSecond.{passed_refused, passed_done}
 use Rattle.seconds.proofs.second.pass_second.Goals as goal
 
-pub returns-then-why-ne0 : goal.returns-then-why-ne0
-returns-then-why-ne0 c =
+pub returns-in_err-consume : goal.returns-in_err-consume
+returns-in_err-consume c =
     let a = c.args in
-    λ sets counts amounts carried.
-    passed_refused a.setup (arrays sets counts a.bytes.now amounts a.masks.now a.good.now carried) a.m a.from a.to a.cut _ _ _
-    (c.consume-why.ensures sets counts amounts a.good.now carried) c.if-why-ne0.true
+    let r = a.receipt in
+    let why = c.in_err-consume.field-0.0 in
+    let e : c.from_residual.result ≡ Err why = search rules in
+    rw e (passed_refused a.setup a.board.now r.posting r.from r.to r.cut _ _ c.in_err-consume.ensures (is_refusal why))
 
 pub returns : goal.returns
 returns c =
     let a = c.args in
-    let one = one_shl 8 a.to (omega arith) in
-    λ sets counts amounts carried.
-    passed_done a.setup (arrays sets counts a.bytes.now amounts a.masks.now a.good.now carried) a.m a.from a.to a.cut _ _ _ _ _
-    (c.consume-why.ensures sets counts amounts a.good.now carried) c.if-why-ne0.false one c.say.ensures
+    let r = a.receipt in
+    let one = one_shl 8 r.to (omega arith) in
+    passed_done a.setup a.board.now r.posting r.from r.to r.cut _ c.consume.new.board _ _ c.in_ok-consume.ensures refl one c.say.ensures

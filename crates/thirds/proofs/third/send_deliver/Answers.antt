@@ -1,24 +1,23 @@
 -- `send_deliver` meets its contract.
 -- Assumes nothing.
-use Rattle.arrays.specs.Arrays.{arrays}
+use mathlib.Core.Path.{◌≡◌, refl}
+use borrow.Author.Rules.{rules}
+use Rattle.std.proofs.Common.{Err}
+use Rattle.steps.proofs.Numbers.{is_refusal}
 use Rattle.thirds.proofs.OnThird.{sent_refused, sent_done}
 use Rattle.thirds.proofs.third.send_deliver.Goals as goal
 
-pub returns-then-why-ne0 : goal.returns-then-why-ne0
-returns-then-why-ne0 c =
+pub returns-in_err-cut_allowed : goal.returns-in_err-cut_allowed
+returns-in_err-cut_allowed c =
     let a = c.args in
-    λ counts amounts good.
-    sent_refused a.setup (arrays a.words.now counts a.bytes.now amounts a.masks.now good a.carried.now) a.m a.from
-    a.to a.cut a.heard a.holders a.union
-    _ _ c.every_site-all.ensures c.cut_refusal-why.ensures c.if-why-ne0.true
+    let r = a.receipt in
+    let why = c.in_err-cut_allowed.field-0.0 in
+    let e : c.from_residual.result ≡ Err why = search rules in
+    rw e (sent_refused a.setup a.board.now r.posting r.from r.to r.cut a.tally.heard a.tally.has a.tally.union _ _ c.every_site-all.ensures c.in_err-cut_allowed.ensures (is_refusal why))
 
 pub returns : goal.returns
 returns c =
-    let last = c.finish.new in
     let a = c.args in
-    λ counts amounts good.
-    sent_done a.setup (arrays a.words.now counts a.bytes.now amounts a.masks.now good a.carried.now) a.m a.from
-    a.to a.cut a.heard a.holders a.union
-    _ _ c.every_site-all.ensures c.cut_refusal-why.ensures _ last.words last.bytes last.masks _ last.carried
-    c.if-why-ne0.false c.sites_to-receivers.ensures
-    (c.finish.ensures counts amounts good) c.send.ensures
+    let r = a.receipt in
+    sent_done a.setup a.board.now r.posting r.from r.to r.cut a.tally.heard a.tally.has a.tally.union _ _ c.every_site-all.ensures c.in_ok-cut_allowed.ensures
+    _ c.finish.new.board _ refl c.sites_to-receivers.ensures c.finish.ensures c.send.ensures
