@@ -2,18 +2,18 @@
 // Rests on arrays and books.
 #![tactic(auto)]
 
-ghost use Rattle.std.specs.Prelude.{ℕ, ◌+◌, ◌<◌, ◌≤◌, ◌≡◌, List};
+ghost use Rattle.std.specs.Prelude.{◌+◌, ◌<◌, ◌≤◌, ◌≡◌};
 ghost use Rattle.sets.specs.Sets.{capacity};
 ghost use Rattle.books.specs.Books.{tabulate};
 ghost use Rattle.site.specs.Sites.{sites};
 ghost use Rattle.flight.specs.Flights.{words_from};
 ghost use Rattle.arrays.specs.Layout.{bytes_long, entry_of};
-ghost use Rattle.arrays.specs.Arrays.{arrays, slot_set};
+ghost use Rattle.arrays.specs.Arrays.{slot_set};
 ghost use Rattle.views.specs.Views.{record_in, site_of, tally_of, row_of, table_of, log_of};
 
 use arrays::{
-    BYTES, COUNTS, DELIVERED, ENTRY, FINISHED, FROM, GOOD, GOT, HAS, HEARD, HELD, INTO, KIND, LOG,
-    LOGGED, OFFERED, OWNER, PLACE, RECORD, SEEN, SETS, STEPPED, TALLIED, UNION, load,
+    Arrays, BYTES, DELIVERED, ENTRY, FINISHED, FROM, GOOD, GOT, HAS, HEARD, HELD, INTO, KIND, LOG,
+    LOGGED, OFFERED, OWNER, PLACE, RECORD, SEEN, STEPPED, TALLIED, UNION, load,
 };
 use posting::{Posting, Record, Table};
 use sets::{POSTINGS, Set};
@@ -32,132 +32,113 @@ fn column(bytes: &[u8; BYTES], at: usize) -> [u8; POSTINGS]
 }
 
 // The record of site p.
-pub fn record_of(counts: &[usize; COUNTS], bytes: &[u8; BYTES], p: usize) -> Record
+pub fn record_of(board: &Arrays, p: usize) -> Record
     requires { p < sites }
-    ensures { (sets amounts masks good carried : List ℕ) → result ≡ record_in (arrays sets counts.now bytes.now amounts masks good carried) p }
+    ensures { result ≡ record_in board.now p }
 {
-    let numbers = column(bytes, RECORD + p * POSTINGS);
     Record {
-        count: counts[DELIVERED + p],
-        numbers: numbers,
+        count: board.counts[DELIVERED + p],
+        numbers: column(&board.bytes, RECORD + p * POSTINGS),
     }
 }
 
 // What belongs to site p.
-pub fn site_of(words: &[u64; SETS], counts: &[usize; COUNTS], bytes: &[u8; BYTES], p: usize) -> Site
+pub fn site_of(board: &Arrays, p: usize) -> Site
     requires { p < sites }
-    ensures { (amounts masks good carried : List ℕ) → result ≡ site_of (arrays words.now counts.now bytes.now amounts masks good carried) p }
+    ensures { result ≡ site_of board.now p }
 {
-    let seen = load(words, SEEN + p);
-    let held = load(words, HELD + p);
-    let stepped = load(words, STEPPED + p);
-    let finished = load(words, FINISHED + p);
-    let got = load(words, GOT + p);
-    let heard = column(bytes, HEARD + p * POSTINGS);
-    let good = column(bytes, GOOD + p * POSTINGS);
-    let delivered = record_of(counts, bytes, p);
     Site {
-        seen: seen,
-        held: held,
-        stepped: stepped,
-        finished: finished,
-        got: got,
-        heard: heard,
-        good: good,
-        place: counts[PLACE + p],
-        delivered: delivered,
+        seen: load(&board.sets, SEEN + p),
+        held: load(&board.sets, HELD + p),
+        stepped: load(&board.sets, STEPPED + p),
+        finished: load(&board.sets, FINISHED + p),
+        got: load(&board.sets, GOT + p),
+        heard: column(&board.bytes, HEARD + p * POSTINGS),
+        good: column(&board.bytes, GOOD + p * POSTINGS),
+        place: board.counts[PLACE + p],
+        delivered: record_of(board, p),
     }
 }
 
 // All sites.
-pub fn sites_of(words: &[u64; SETS], counts: &[usize; COUNTS], bytes: &[u8; BYTES]) -> [Site; SITES]
-    ensures { (amounts masks good carried : List ℕ) → result ≡ tabulate sites (site_of (arrays words.now counts.now bytes.now amounts masks good carried)) }
+pub fn sites_of(board: &Arrays) -> [Site; SITES]
+    ensures { result ≡ tabulate sites (site_of board.now) }
 {
-    let first = site_of(words, counts, bytes, 0);
-    let mut all = [first; SITES];
+    let mut all = [site_of(board, 0); SITES];
     for p in 0..SITES {
-        let s = site_of(words, counts, bytes, p);
-        all[p] = s;
+        all[p] = site_of(board, p);
     }
     all
 }
 
 // The tally of posting m.
-pub fn tally_of(words: &[u64; SETS], bytes: &[u8; BYTES], m: usize) -> Tally
+pub fn tally_of(board: &Arrays, m: usize) -> Tally
     requires { m < capacity }
-    ensures { (counts amounts masks good carried : List ℕ) → result ≡ tally_of (arrays words.now counts bytes.now amounts masks good carried) m }
+    ensures { result ≡ tally_of board.now m }
 {
-    let union = load(words, UNION + m);
     Tally {
-        heard: bytes[TALLIED + m],
-        has: bytes[HAS + m],
-        union: union,
+        heard: board.bytes[TALLIED + m],
+        has: board.bytes[HAS + m],
+        union: load(&board.sets, UNION + m),
     }
 }
 
 // The tallies of all postings.
-pub fn tallies_of(words: &[u64; SETS], bytes: &[u8; BYTES]) -> [Tally; POSTINGS]
-    ensures { (counts amounts masks good carried : List ℕ) → result ≡ tabulate capacity (tally_of (arrays words.now counts bytes.now amounts masks good carried)) }
+pub fn tallies_of(board: &Arrays) -> [Tally; POSTINGS]
+    ensures { result ≡ tabulate capacity (tally_of board.now) }
 {
-    let first = tally_of(words, bytes, 0);
-    let mut all = [first; POSTINGS];
+    let mut all = [tally_of(board, 0); POSTINGS];
     for m in 0..POSTINGS {
-        let t = tally_of(words, bytes, m);
-        all[m] = t;
+        all[m] = tally_of(board, m);
     }
     all
 }
 
 // The entry of each posting.
-pub fn entries_of(words: &[u64; SETS]) -> [Set; POSTINGS]
-    ensures { result ≡ tabulate capacity (λ m. slot_set words.now (entry_of m)) }
+pub fn entries_of(board: &Arrays) -> [Set; POSTINGS]
+    ensures { result ≡ tabulate capacity (λ m. slot_set board.now.sets (entry_of m)) }
 {
-    let first = load(words, ENTRY);
-    let mut all = [first; POSTINGS];
+    let mut all = [load(&board.sets, ENTRY); POSTINGS];
     for m in 0..POSTINGS {
-        let s = load(words, ENTRY + m);
-        all[m] = s;
+        all[m] = load(&board.sets, ENTRY + m);
     }
     all
 }
 
 // The row of posting m.
-pub fn row_of(bytes: &[u8; BYTES], amounts: &[u32; POSTINGS], m: usize) -> Posting
+pub fn row_of(board: &Arrays, m: usize) -> Posting
     requires { m < capacity }
-    ensures { (sets counts masks good carried : List ℕ) → result ≡ row_of (arrays sets counts bytes.now amounts.now masks good carried) m }
+    ensures { result ≡ row_of board.now m }
 {
     Posting {
-        owner: bytes[OWNER + m],
-        kind: bytes[KIND + m],
-        a: bytes[FROM + m],
-        b: bytes[INTO + m],
-        amount: amounts[m],
+        owner: board.bytes[OWNER + m],
+        kind: board.bytes[KIND + m],
+        a: board.bytes[FROM + m],
+        b: board.bytes[INTO + m],
+        amount: board.amounts[m],
     }
 }
 
 // The table.
-pub fn table_of(counts: &[usize; COUNTS], bytes: &[u8; BYTES], amounts: &[u32; POSTINGS]) -> Table
-    ensures { (sets masks good carried : List ℕ) → result ≡ table_of (arrays sets counts.now bytes.now amounts.now masks good carried) }
+pub fn table_of(board: &Arrays) -> Table
+    ensures { result ≡ table_of board.now }
 {
-    let first = row_of(bytes, amounts, 0);
-    let mut all = [first; POSTINGS];
+    let mut rows = [row_of(board, 0); POSTINGS];
     for m in 0..POSTINGS {
-        let row = row_of(bytes, amounts, m);
-        all[m] = row;
+        rows[m] = row_of(board, m);
     }
     Table {
-        count: counts[OFFERED],
-        rows: all,
+        count: board.counts[OFFERED],
+        rows,
     }
 }
 
 // The log.
-pub fn log_of(counts: &[usize; COUNTS], bytes: &[u8; BYTES]) -> Record
-    ensures { (sets amounts masks good carried : List ℕ) → result ≡ log_of (arrays sets counts.now bytes.now amounts masks good carried) }
+pub fn log_of(board: &Arrays) -> Record
+    ensures { result ≡ log_of board.now }
 {
-    let numbers = column(bytes, LOG);
     Record {
-        count: counts[LOGGED],
-        numbers: numbers,
+        count: board.counts[LOGGED],
+        numbers: column(&board.bytes, LOG),
     }
 }

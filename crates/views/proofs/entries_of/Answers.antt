@@ -13,7 +13,7 @@ loop-m-init c = (search rules, filled_begin capacity _ no_set _)
 pub loop-m-preserved : goal.loop-m-preserved
 loop-m-preserved c =
     let at = c.loop-m in
-    (search rules, filled_step capacity _ no_set at.all at.m c.load-s.result c.loop-m-test.true c.load-s.ensures at.invariant.1)
+    (search rules, filled_step capacity _ no_set at.all at.m c.load.result c.loop-m-test.true c.load.ensures at.invariant.1)
 
 pub returns : goal.returns
 returns c = filled_all capacity _ no_set c.loop-m.all c.loop-m.m c.loop-m-test.false c.loop-m.invariant.1

@@ -9,4 +9,4 @@ use Rattle.views.proofs.Filled.{Filled}
 use Rattle.views.proofs.entries_of.Given as goal
 
 abbrev pub invariant-loop-m : goal.invariant-loop-m
-invariant-loop-m l = (l.m ≤ capacity) × Filled capacity (λ q. slot_set l.words (entry_of q)) no_set l.all l.m
+invariant-loop-m l = (l.m ≤ capacity) × Filled capacity (λ q. slot_set l.board.sets (entry_of q)) no_set l.all l.m

@@ -5,4 +5,4 @@ use Rattle.views.proofs.log_of.Goals as goal
 
 pub returns : goal.returns
 unfolding log_of
-returns c sets amounts masks good carried = rw c.column-numbers.ensures
+returns c = rw c.column.ensures

@@ -11,7 +11,7 @@ use Rattle.views.proofs.record_of.Goals as goal
 
 pub returns : goal.returns
 unfolding record_in
-returns c sets amounts masks good carried =
+returns c =
     let p = c.args.p in
     let at : record_at p 0 ≡ 1 + 7 * capacity + 2 * (sites * capacity) + p * capacity = omega arith in
-    rw (c.column-numbers.ensures, at)
+    rw (c.column.ensures, at)

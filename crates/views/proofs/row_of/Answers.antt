@@ -6,4 +6,4 @@ use Rattle.views.proofs.row_of.Goals as goal
 
 pub returns : goal.returns
 unfolding row_of
-returns c sets counts masks good carried = refl
+returns c = refl

@@ -11,19 +11,19 @@ use Rattle.views.proofs.site_of.Goals as goal
 
 pub returns : goal.returns
 unfolding site_of
-returns c amounts masks good carried =
+returns c =
     let p = c.args.p in
     let heard : heard_at p 0 ≡ 1 + 7 * capacity + p * capacity = omega arith in
     let good-at : good_at p 0 ≡ 1 + 7 * capacity + sites * capacity + p * capacity = omega arith in
     rw (
-      c.record_of-delivered.ensures c.args.words.now amounts masks good carried,
-      c.column-good.ensures,
-      c.column-heard.ensures,
-      c.load-got.ensures,
-      c.load-finished.ensures,
-      c.load-stepped.ensures,
-      c.load-held.ensures,
-      c.load-seen.ensures,
+      c.record_of.ensures,
+      c.column-2.ensures,
+      c.column.ensures,
+      c.load-5.ensures,
+      c.load-4.ensures,
+      c.load-3.ensures,
+      c.load-2.ensures,
+      c.load.ensures,
       heard,
       good-at,
     )

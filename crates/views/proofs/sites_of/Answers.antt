@@ -7,12 +7,12 @@ use borrow.Author.Rules.{rules}
 use Rattle.views.proofs.sites_of.Goals as goal
 
 pub loop-p-init : goal.loop-p-init
-loop-p-init c = (search rules, λ amounts masks good carried. filled_begin sites _ no_site _)
+loop-p-init c = (search rules, filled_begin sites _ no_site _)
 
 pub loop-p-preserved : goal.loop-p-preserved
 loop-p-preserved c =
     let at = c.loop-p in
-    (search rules, λ amounts masks good carried. filled_step sites _ no_site at.all at.p c.site_of-s.result c.loop-p-test.true (c.site_of-s.ensures amounts masks good carried) (at.invariant.1 amounts masks good carried))
+    (search rules, filled_step sites _ no_site at.all at.p c.site_of.result c.loop-p-test.true c.site_of.ensures at.invariant.1)
 
 pub returns : goal.returns
-returns c = λ amounts masks good carried. filled_all sites _ no_site c.loop-p.all c.loop-p.p c.loop-p-test.false (c.loop-p.invariant.1 amounts masks good carried)
+returns c = filled_all sites _ no_site c.loop-p.all c.loop-p.p c.loop-p-test.false c.loop-p.invariant.1

@@ -14,17 +14,16 @@ use borrow.Author.Rules.{rules}
 use Rattle.views.proofs.table_of.Goals as goal
 
 pub loop-m-init : goal.loop-m-init
-loop-m-init c = (search rules, λ sets masks good carried. filled_begin capacity _ no_posting _)
+loop-m-init c = (search rules, filled_begin capacity _ no_posting _)
 
 pub loop-m-preserved : goal.loop-m-preserved
 loop-m-preserved c =
     let at = c.loop-m in
-    (search rules, λ sets masks good carried. filled_step capacity _ no_posting at.all at.m c.row_of-row.result c.loop-m-test.true (c.row_of-row.ensures sets c.args.counts.now masks good carried) (at.invariant.1 sets masks good carried))
+    (search rules, filled_step capacity _ no_posting at.rows at.m c.row_of.result c.loop-m-test.true c.row_of.ensures at.invariant.1)
 
 pub returns : goal.returns
 unfolding table_of
 returns c =
-    λ sets masks good carried.
     let at = c.loop-m in
-    ap (λ (rows : List Posting). record { count = get_or c.args.counts.now count_at 0; rows = rows })
-    (filled_all capacity _ no_posting at.all at.m c.loop-m-test.false (at.invariant.1 sets masks good carried))
+    ap (λ (rows : List Posting). record { count = get_or c.args.board.now.counts count_at 0; rows = rows })
+    (filled_all capacity _ no_posting at.rows at.m c.loop-m-test.false at.invariant.1)

@@ -5,4 +5,4 @@ use Rattle.views.proofs.tally_of.Goals as goal
 
 pub returns : goal.returns
 unfolding tally_of
-returns c counts amounts masks good carried = rw c.load-union.ensures
+returns c = rw c.load.ensures
