@@ -19,7 +19,7 @@ arrays sets counts bytes amounts masks good carried =
 
 -- nothing but zeros
 abbrev pub zeros : Arrays
-zeros = arrays (replicate sets_long 0) (replicate counts_long 0) (replicate bytes_long 0) (replicate capacity 0) (replicate cells 0) (replicate pairs 0) (replicate (pairs * words) 0)
+zeros = arrays (replicate sets_long 0) (replicate counts_long 0) (replicate bytes_long 0) (replicate capacity 0) (replicate cells 0) (replicate pairs 0) (replicate (words * pairs) 0)
 
 -- the arrays with one of them changed
 abbrev pub with_sets : Arrays → List ℕ → Arrays

@@ -3,7 +3,7 @@
 use Prim.Native.Nat.{ℕ, ◌<◌}
 use mathlib.Core.Path.{◌≡◌, refl, sym, ap, ◌∙◌}
 use mathlib.Core.Logic.{◌≢◌, inl, inr}
-use mathlib.Core.Bool.{Bool, true, cond}
+use mathlib.Core.Bool.{true, false}
 use mathlib.Core.List.{List, [], ◌∷◌}
 use native.Mathlib.Omega.{arith}
 use borrow.Author.Tests.{eq-eqb, ne_eqb}
@@ -20,7 +20,7 @@ use Rattle.machine.specs.declared.Answer.TheVariants.{Done, Offered, Refused}
 use Rattle.machine.specs.Calls.{answer_of, refusal_of, judged, offering, receiving, ordering, reading, crashing}
 use Rattle.machine.specs.Soundness.{is_sound}
 use Rattle.machine.specs.Runs.{taking}
-use Rattle.machine.specs.ByMask.{answered_by}
+use Rattle.machine.specs.ByMask.{answered_by, refusing}
 use Rattle.machine.specs.View.{view, Right}
 use Rattle.machine.proofs.Causes.{Numbered}
 use Rattle.machine.proofs.Performed.{perform_gives}
@@ -39,16 +39,15 @@ judged_by (c ∷ l) h back x a e z = elim (test c.applies) [
   | inr f ↦ rw f (judged_by l h.1 back x a e z)
 ]
 
--- as the code has it, from the board and the number
-module _ (o : Outcome) (a : Answer) (is : o ≡ answered_by a o.board (refusal_of o.answer)) (b : Board) (why : ℕ) (eb : b ≡ o.board) (ew : why ≡ refusal_of o.answer) where
-  pub answered_by_lem : answered_by a b why ≡ o
-  answered_by_lem = rw (eb, ew) (sym is)
-
-  pub answered_refused : why ≢ 0 → record { board = b; answer = Refused why } ≡ o
-  answered_refused d = ap (λ (x : Bool). record { board = b; answer = cond x a (Refused why) }) (sym (ne_eqb why 0 d)) ∙ answered_by_lem
-
-  pub answered_so : why ≡ 0 → record { board = b; answer = a } ≡ o
-  answered_so z = ap (λ (x : Bool). record { board = b; answer = cond x a (Refused why) }) (sym (eq-eqb why 0 z)) ∙ answered_by_lem
+-- as the code has it: an unsound board is refused, and a sound one answers by the board and the number
+pub responded :
+    (b : Board) (x o : Outcome) (a : Answer) → (is_sound b ≡ false → refusing b 6 ≡ x) → x ≡ answered_by a x.board (refusal_of x.answer)
+    → (is_sound b ≡ false → o ≡ refusing b 6) → (is_sound b ≡ true → o ≡ answered_by a x.board (refusal_of x.answer))
+    → (o ≡ x) × (answer_of o.answer ≡ answer_of x.answer)
+responded b x o a refused is unsound sound = elim (test (is_sound b)) [
+  | inl t ↦ with_answer (sound t ∙ sym is)
+  | inr f ↦ with_answer (unsound f ∙ refused f)
+]
 
 module _ (b : Board) where
   pub offer_by : (site kind account other amount : ℕ) (cut : Cut) → let o = offering b site kind account other amount cut in

@@ -23,18 +23,12 @@ use Rattle.site.specs.Sites.{sites, blank_site, blank_tally}
 use Rattle.flight.specs.Flights.{pairs, cells, words_from, empty_flight}
 use Rattle.arrays.specs.Layout.{seen_of, held_of, stepped_of, finished_of, got_of, pool_slot, union_of, entry_of, kind_of, have_of, sets_long, place_at, delivered_at, counts_long, owner_at, kind_at, from_at, into_at, tallied_at, has_at, log_at, heard_at, good_at, record_at, bytes_long}
 use Rattle.arrays.specs.declared.Arrays.{Arrays}
-use Rattle.arrays.specs.Arrays.{arrays, slot_set, has_in}
+use Rattle.arrays.specs.Arrays.{zeros, slot_set, has_in}
 use Rattle.arrays.proofs.Slots.{slot_zero, has_slot}
 use Rattle.index.proofs.Indexed.{indexed_empty}
 use Rattle.machine.specs.Boards.{fresh_board}
 use Rattle.views.specs.Views.{record_in, site_of, tally_of, row_of, table_of, log_of}
 use Rattle.machine.specs.View.{view, Right}
-
--- nothing in any array
-abbrev pub zeros : Arrays
-zeros =
-    arrays (replicate sets_long 0) (replicate counts_long 0) (replicate bytes_long 0) (replicate capacity 0) (replicate cells 0) (replicate pairs 0)
-    (replicate (words * pairs) 0)
 
 zero_at : (n i : ℕ) → get_or {A = ℕ} (replicate n 0) i 0 ≡ 0
 zero_at n i = elim (dec_lt i n) [

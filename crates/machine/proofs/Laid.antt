@@ -20,7 +20,7 @@ use Rattle.site.specs.Sites.{sites, no_set, no_site, no_tally}
 use Rattle.flight.specs.Flights.{words_from}
 use Rattle.arrays.specs.Layout.{entry_of, count_at, logged_at, place_at, delivered_at, counts_long, down_at, log_at, heard_at, good_at, record_at, bytes_long, sets_long}
 use Rattle.arrays.specs.declared.Arrays.{Arrays}
-use Rattle.arrays.specs.Arrays.{arrays, slot_set, byte}
+use Rattle.arrays.specs.Arrays.{arrays, slot_set, byte, zeros}
 use Rattle.arrays.proofs.Slots.{part_ext}
 use Rattle.machine.specs.declared.Board.{Board}
 use Rattle.machine.specs.Boards.{site_at, tally_at}
@@ -302,15 +302,14 @@ module _ (b : Board) (shape : BoardShape b) (ws cs bs rs : List ℕ) (s : SetsLa
 
 -- the arrays that lay_out makes of zeros
 pub laid_out :
-    (b : Board) → BoardShape b → is_sound b ≡ true → (ws₀ cs₀ bs₀ rs₀ ws cs bs rs : List ℕ) → ws₀ ≡ replicate sets_long 0 → cs₀ ≡ replicate counts_long 0
-    → bs₀ ≡ replicate bytes_long 0 → rs₀ ≡ replicate capacity 0 → ws ≡ laying_sets ws₀ b.table b.sites b.tallies b.pool b.entries
-    → cs ≡ laying_counts cs₀ b.table.count b.log.count b.sites
-    → bs ≡ laying_bytes bs₀ b.down b.table.rows b.sites b.tallies b.log.numbers → rs ≡ laying_amounts rs₀ b.table.rows capacity
+    (b : Board) → BoardShape b → is_sound b ≡ true → (z : Arrays) (ws cs bs rs : List ℕ) → z ≡ zeros
+    → ws ≡ laying_sets z.sets b.table b.sites b.tallies b.pool b.entries → cs ≡ laying_counts z.counts b.table.count b.log.count b.sites
+    → bs ≡ laying_bytes z.bytes b.down b.table.rows b.sites b.tallies b.log.numbers → rs ≡ laying_amounts z.amounts b.table.rows capacity
     → let d = arrays ws cs bs rs b.flight.masks b.flight.good b.flight.carried in (view b.setup d ≡ b) × Right d
-laid_out b shape sound ws₀ cs₀ bs₀ rs₀ ws cs bs rs zw zc zb zr ew ec eb er =
-    let s : SetsLaid b ws = rw (ew, zw) (sets_laid b shape (sound_ranged b shape sound)) in
-    let c : CountsLaid b cs = rw (ec, zc) (counts_laid b) in
-    let y : BytesLaid b bs = rw (eb, zb) (bytes_laid b shape) in
-    let amounts : (m : ℕ) → m < capacity → get_or rs m 0 ≡ (row b.table m).amount = λ m h. rw (er, zr) (amount_laid b m h) in
-    let long : length rs ≡ capacity = rw (er, zr) (amounts_long b) in
+laid_out b shape sound z ws cs bs rs ez ew ec eb er =
+    let s : SetsLaid b ws = rw (ew, ez) (sets_laid b shape (sound_ranged b shape sound)) in
+    let c : CountsLaid b cs = rw (ec, ez) (counts_laid b) in
+    let y : BytesLaid b bs = rw (eb, ez) (bytes_laid b shape) in
+    let amounts : (m : ℕ) → m < capacity → get_or rs m 0 ≡ (row b.table m).amount = λ m h. rw (er, ez) (amount_laid b m h) in
+    let long : length rs ≡ capacity = rw (er, ez) (amounts_long b) in
     (laid_shown b shape ws cs bs rs s c y amounts, laid_right b shape ws cs bs rs s c y amounts long)

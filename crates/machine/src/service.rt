@@ -1,42 +1,37 @@
 // The service: a board takes any call with any arguments, by value. An unsound board is refused first (6); a sound one is laid out on arrays,
 // takes the call in place, and is taken off them. Rests on laying and taking, on events.
 
-ghost use Rattle.std.specs.Prelude.{◌≡◌, true};
-ghost use Rattle.machine.specs.declared.Answer.TheVariants.{Done};
+ghost use Rattle.std.specs.Prelude.{◌≡◌, true, false};
+ghost use Rattle.steps.specs.Refusals.{answer_number};
 ghost use Rattle.machine.specs.Soundness.{is_sound};
-ghost use Rattle.machine.specs.ByMask.{answered_by};
+ghost use Rattle.machine.specs.ByMask.{answered_by, refusing};
 ghost use Rattle.machine.specs.Calls.{answer_of, refusal_of, offering, receiving, ordering, reading, crashing};
 ghost use Rattle.machine.specs.Runs.{taking};
 
 use crate::laying::lay_out;
 use crate::taking::board_of;
 use crate::{Answer, Board, Outcome};
-use arrays::{BYTES, COUNTS, SETS};
 use events::perform;
-use sets::POSTINGS;
-use steps::{Call, Cut};
+use steps::{Call, Cut, Refusal};
 
-// The board that a call leaves, and the number of its refusal; 0 if it was accepted.
+// The board that a call leaves, and whether it was accepted.
 #[derive(Drop)]
 struct Taken {
     board: Board,
-    why: u8,
+    answer: Result<(), Refusal>,
 }
 
-// What a call that is not an offer answers, by the number of its refusal.
-fn outcome(taken: Taken) -> Outcome
-    ensures { result ≡ answered_by Done taken.board taken.why }
+// What a call answers that answers so where it is accepted.
+fn outcome(taken: Taken, accepted: Answer) -> Outcome
+    ensures { result ≡ answered_by accepted taken.board (answer_number taken.answer) }
 {
-    let board = taken.board;
-    if taken.why != 0 {
-        return Outcome {
-            board: board,
-            answer: Answer::Refused(taken.why),
-        };
-    }
+    let answer = match taken.answer {
+        Ok(()) => accepted,
+        Err(refusal) => Answer::Refused(refusal.number()),
+    };
     Outcome {
-        board: board,
-        answer: Answer::Done,
+        board: taken.board,
+        answer,
     }
 }
 
@@ -45,36 +40,28 @@ impl Board {
     fn take(self, call: Call) -> Taken
         requires { is_sound self ≡ true }
         ensures board_value { result.board ≡ (taking self call).board }
-        ensures why_value { result.why ≡ refusal_of (taking self call).answer }
+        ensures answer_value { answer_number result.answer ≡ refusal_of (taking self call).answer }
     {
         let setup = self.setup;
-        let flight = self.flight;
-        let mut words = [0; SETS];
-        let mut counts = [0; COUNTS];
-        let mut bytes = [0; BYTES];
-        let mut amounts = [0; POSTINGS];
-        let mut masks = flight.masks;
-        let mut good = flight.good;
-        let mut carried = flight.carried;
-        lay_out(&mut words, &mut counts, &mut bytes, &mut amounts, self);
-        let why = perform(
-            &mut words,
-            &mut counts,
-            &mut bytes,
-            &mut amounts,
-            &mut masks,
-            &mut good,
-            &mut carried,
-            setup,
-            call,
-        );
-        let board = board_of(
-            &words, &counts, &bytes, &amounts, masks, good, carried, setup,
-        );
-        Taken {
-            board: board,
-            why: why,
+        let mut arrays = lay_out(self);
+        let answer = perform(&mut arrays, setup, call);
+        let board = board_of(&arrays, setup);
+        Taken { board, answer }
+    }
+
+    // A call, which answers so where it is accepted. An unsound board is refused.
+    fn respond(self, call: Call, accepted: Answer) -> Outcome
+        ensures unsound { is_sound self ≡ false → result ≡ refusing self 6 }
+        ensures sound { is_sound self ≡ true → result ≡ answered_by accepted (taking self call).board (refusal_of (taking self call).answer) }
+    {
+        if !self.is_sound() {
+            return Outcome {
+                board: self,
+                answer: Answer::Refused(Refusal::Unsound.number()),
+            };
         }
+        let taken = self.take(call);
+        outcome(taken, accepted)
     }
 
     // Offer: the posting gets its number; FIRST goes to all n sites.
@@ -90,33 +77,16 @@ impl Board {
         ensures value { result ≡ offering self site kind account other amount cut }
         ensures answer_value { answer_of result.answer ≡ answer_of (offering self site kind account other amount cut).answer }
     {
-        if self.is_sound() {
-            let table = self.table;
-            let m = table.count;
-            let taken = self.take(Call::Offer {
-                site: site,
-                kind: kind,
-                a: account,
-                b: other,
-                amount: amount,
-                cut: cut,
-            });
-            let board = taken.board;
-            if taken.why != 0 {
-                return Outcome {
-                    board: board,
-                    answer: Answer::Refused(taken.why),
-                };
-            }
-            return Outcome {
-                board: board,
-                answer: Answer::Offered(m),
-            };
-        }
-        Outcome {
-            board: self,
-            answer: Answer::Refused(6),
-        }
+        let number = self.table.count;
+        let call = Call::Offer {
+            site,
+            kind,
+            a: account,
+            b: other,
+            amount,
+            cut,
+        };
+        self.respond(call, Answer::Offered(number))
     }
 
     // Receive: the message leaves the flight, and its receiver takes the step of its form.
@@ -124,20 +94,14 @@ impl Board {
         ensures value { result ≡ receiving self form m from to cut }
         ensures answer_value { answer_of result.answer ≡ answer_of (receiving self form m from to cut).answer }
     {
-        if self.is_sound() {
-            let taken = self.take(Call::Receive {
-                form: form,
-                posting: m,
-                from: from,
-                to: to,
-                cut: cut,
-            });
-            return outcome(taken);
-        }
-        Outcome {
-            board: self,
-            answer: Answer::Refused(6),
-        }
+        let call = Call::Receive {
+            form,
+            posting: m,
+            from,
+            to,
+            cut,
+        };
+        self.respond(call, Answer::Done)
     }
 
     // Order: the oracle moves m's entry from the pool to the end of the log.
@@ -145,14 +109,7 @@ impl Board {
         ensures value { result ≡ ordering self m }
         ensures answer_value { answer_of result.answer ≡ answer_of (ordering self m).answer }
     {
-        if self.is_sound() {
-            let taken = self.take(Call::Order { posting: m });
-            return outcome(taken);
-        }
-        Outcome {
-            board: self,
-            answer: Answer::Refused(6),
-        }
+        self.respond(Call::Order { posting: m }, Answer::Done)
     }
 
     // Read: a site takes the log's next entry.
@@ -160,17 +117,7 @@ impl Board {
         ensures value { result ≡ reading self site cut }
         ensures answer_value { answer_of result.answer ≡ answer_of (reading self site cut).answer }
     {
-        if self.is_sound() {
-            let taken = self.take(Call::Read {
-                site: site,
-                cut: cut,
-            });
-            return outcome(taken);
-        }
-        Outcome {
-            board: self,
-            answer: Answer::Refused(6),
-        }
+        self.respond(Call::Read { site, cut }, Answer::Done)
     }
 
     // Crash: a site goes down for good.
@@ -178,13 +125,6 @@ impl Board {
         ensures value { result ≡ crashing self site }
         ensures answer_value { answer_of result.answer ≡ answer_of (crashing self site).answer }
     {
-        if self.is_sound() {
-            let taken = self.take(Call::Crash { site: site });
-            return outcome(taken);
-        }
-        Outcome {
-            board: self,
-            answer: Answer::Refused(6),
-        }
+        self.respond(Call::Crash { site }, Answer::Done)
     }
 }

@@ -1,20 +1,17 @@
 -- `crash` meets its contract.
 -- Assumes nothing.
-use mathlib.Core.Path.{sym, ◌∙◌}
+use Rattle.machine.specs.declared.Answer.TheVariants.{Done}
 use Rattle.machine.specs.Runs.{taking}
 use Rattle.machine.specs.Calls.{crashing}
 use Rattle.machine.proofs.Causes.{unsound_refused}
-use Rattle.machine.proofs.Answered.{with_answer, answered_by_lem, crash_by}
+use Rattle.machine.proofs.Answered.{responded, crash_by}
 use Rattle.machine.proofs.Board.crash.Goals as goal
 
-pub take-taken-requires : goal.take-taken-requires
-take-taken-requires c = sym c.is_sound.ensures ∙ c.if-is_sound.true
-
-pub returns-then-is_sound : goal.returns-then-is_sound
-unfolding taking
-returns-then-is_sound c =
-    let g = c.args in record { value = (with_answer (c.outcome.ensures ∙ answered_by_lem _ _ (crash_by g.self g.site) _ _ c.take-taken.ensures.board_value c.take-taken.ensures.why_value)).0; answer_value = (with_answer (c.outcome.ensures ∙ answered_by_lem _ _ (crash_by g.self g.site) _ _ c.take-taken.ensures.board_value c.take-taken.ensures.why_value)).1 }
-
 pub returns : goal.returns
-unfolding crashing
-returns c = record { value = (with_answer (unsound_refused c.args.self (sym c.is_sound.ensures ∙ c.if-is_sound.false) _ _)).0; answer_value = (with_answer (unsound_refused c.args.self (sym c.is_sound.ensures ∙ c.if-is_sound.false) _ _)).1 }
+unfolding crashing taking
+returns c =
+    let g = c.args in
+    let shown =
+      responded g.self (crashing g.self g.site) c.respond.result (Done) (λ f. unsound_refused g.self f _ _) (crash_by g.self g.site)
+      c.respond.ensures.unsound c.respond.ensures.sound in
+    record { value = shown.0; answer_value = shown.1 }
