@@ -169,7 +169,7 @@ module _ (setup : Setup) (a : Arrays) (sound : is_sound (view setup a) ≡ true)
 -- what the books of a board at work need of its soundness
 pub may_post_at :
     (setup : Setup) (a : Arrays) → length a.masks ≡ cells → is_sound (view setup a) ≡ true → setup.n ≤ sites → (p : ℕ) → p < setup.n
-    → Postable (table_of (arrays [] a.counts a.bytes a.amounts [] [] [])) (view_of.record_in (arrays [] a.counts a.bytes a.amounts [] [] []) p)
+    → Postable (table_of a) (view_of.record_in a p)
 unfolding view table_of row_of view_of.record_in
 may_post_at setup a long sound few p h =
     let there : p < sites = omega arith in

@@ -6,6 +6,7 @@ ghost use Rattle.posting.specs.Conflicts.{empty_table};
 ghost use Rattle.machine.specs.Boards.{fresh_board};
 ghost use Rattle.machine.specs.Calls.{answer_of, starting};
 ghost use Rattle.steps.specs.CauseLists.{first_cause};
+ghost use Rattle.steps.specs.Refusals.{answer_number};
 ghost use Rattle.machine.specs.ByMask.{start_causes};
 
 use flight::Flight;
@@ -13,29 +14,25 @@ use machine::{Answer, Board, Outcome};
 use posting::{Posting, Record, Table, has_fixed_pairs, symmetric};
 use sets::{POSTINGS, Set};
 use site::{SITES, Setup, Site, Tally};
+use steps::Refusal;
 
 // 2 to 5 of a start.
-pub fn start_refusal(n: u8, f: u8, matrix: u16) -> u8
-    ensures { result ≡ first_cause (start_causes n f matrix) }
+pub fn start_fits(n: u8, f: u8, matrix: u16) -> Result<(), Refusal>
+    ensures { answer_number result ≡ first_cause (start_causes n f matrix) }
 {
-    if n < 3 {
-        return 2;
+    if n < 3 || 7 < n {
+        return Err(Refusal::SiteCount);
     }
-    if 7 < n {
-        return 2;
+    if u32::from(n) <= 2 * u32::from(f) {
+        return Err(Refusal::CrashCount);
     }
-    let sites = n as u32;
-    let crashes = f as u32;
-    if sites <= 2 * crashes {
-        return 3;
+    if !symmetric(matrix) {
+        return Err(Refusal::Asymmetric);
     }
-    if symmetric(matrix) {
-        if has_fixed_pairs(matrix) {
-            return 0;
-        }
-        return 5;
+    if !has_fixed_pairs(matrix) {
+        return Err(Refusal::LacksPair);
     }
-    4
+    Ok(())
 }
 
 // A site that has done nothing.
@@ -43,7 +40,6 @@ fn blank_site() -> Site
     ensures { result ≡ blank_site }
 {
     let none = Set::empty();
-    let delivered = Record::empty();
     Site {
         seen: none,
         held: none,
@@ -53,7 +49,7 @@ fn blank_site() -> Site
         heard: [0; POSTINGS],
         good: [0; POSTINGS],
         place: 0,
-        delivered: delivered,
+        delivered: Record::empty(),
     }
 }
 
@@ -61,11 +57,10 @@ fn blank_site() -> Site
 fn blank_tally() -> Tally
     ensures { result ≡ blank_tally }
 {
-    let none = Set::empty();
     Tally {
         heard: 0,
         has: 0,
-        union: none,
+        union: Set::empty(),
     }
 }
 
@@ -90,22 +85,17 @@ fn empty_table() -> Table
 pub fn fresh(setup: Setup) -> Board
     ensures { result ≡ fresh_board setup }
 {
-    let table = empty_table();
-    let site = blank_site();
-    let tally = blank_tally();
-    let flight = Flight::empty();
     let none = Set::empty();
-    let log = Record::empty();
     Board {
-        setup: setup,
+        setup,
         down: 0,
-        table: table,
-        sites: [site; SITES],
-        tallies: [tally; POSTINGS],
-        flight: flight,
+        table: empty_table(),
+        sites: [blank_site(); SITES],
+        tallies: [blank_tally(); POSTINGS],
+        flight: Flight::empty(),
         pool: none,
         entries: [none; POSTINGS],
-        log: log,
+        log: Record::empty(),
     }
 }
 
@@ -114,25 +104,18 @@ pub fn start(n: u8, f: u8, matrix: u16) -> Outcome
     ensures value { result ≡ starting n f matrix }
     ensures answer_value { answer_of result.answer ≡ answer_of (starting n f matrix).answer }
 {
-    let why = start_refusal(n, f, matrix);
-    if why != 0 {
-        let blank = fresh(Setup {
-            n: 0,
-            f: 0,
-            matrix: 0,
-        });
-        return Outcome {
-            board: blank,
-            answer: Answer::Refused(why),
-        };
-    }
-    let board = fresh(Setup {
-        n: n,
-        f: f,
-        matrix: matrix,
-    });
-    Outcome {
-        board: board,
-        answer: Answer::Done,
+    match start_fits(n, f, matrix) {
+        Ok(()) => Outcome {
+            board: fresh(Setup { n, f, matrix }),
+            answer: Answer::Done,
+        },
+        Err(refusal) => Outcome {
+            board: fresh(Setup {
+                n: 0,
+                f: 0,
+                matrix: 0,
+            }),
+            answer: Answer::Refused(refusal.number()),
+        },
     }
 }

@@ -1,15 +1,14 @@
 // Whether a board is quiet: nothing in flight is for a site that is up, the pool is empty, and every site that is up has read the whole log.
 // Rests on machine, arrays, flight, site, masks and sets. It is answered for every board value: a place past the array is a site that has read nothing.
-ghost use Rattle.std.specs.Prelude.{ℕ, ◌≤◌, ◌≡◌, List, length, get_or};
+ghost use Rattle.std.specs.Prelude.{ℕ, ◌≤◌, ◌≡◌, length, get_or};
 ghost use Rattle.flight.specs.Flights.{cells};
 ghost use Rattle.site.specs.Sites.{sites, no_site};
 ghost use Rattle.arrays.specs.Layout.{logged_at};
-ghost use Rattle.arrays.specs.Arrays.{arrays};
 ghost use Rattle.machine.specs.Runs.{is_quiet};
 ghost use Rattle.machine.specs.View.{view};
 ghost use Rattle.machine.specs.QuietParts.{up_byte, place_in, all_read_lem, quiet_by};
 
-use arrays::{BYTES, COUNTS, DOWN, LOGGED, PLACE, POOL, SETS, load};
+use arrays::{Arrays, COUNTS, DOWN, LOGGED, PLACE, POOL, load};
 use flight::MASKS;
 use machine::Board;
 use masks::has_site;
@@ -55,13 +54,7 @@ fn quiet_by(masks: &[u8; MASKS], n: u8, down: u8, pool: Set, counts: &[usize; CO
     ensures { result ≡ quiet_by masks.now n down pool counts.now }
 {
     let up = up_mask(n, down);
-    if flight::nothing_comes(masks, up) == false {
-        return false;
-    }
-    if pool.is_empty() == false {
-        return false;
-    }
-    all_read(n, down, counts)
+    flight::nothing_comes(masks, up) && pool.is_empty() && all_read(n, down, counts)
 }
 
 // The log places of sites, and how many entries were logged, as the arrays of a board at work have them.
@@ -72,8 +65,7 @@ fn places_of(sites: [Site; SITES], logged: usize) -> [usize; COUNTS]
     let mut counts = [0; COUNTS];
     counts[LOGGED] = logged;
     for p in 0..SITES {
-        let s = sites[p];
-        counts[PLACE + p] = s.place;
+        counts[PLACE + p] = sites[p].place;
     }
     counts
 }
@@ -81,24 +73,27 @@ fn places_of(sites: [Site; SITES], logged: usize) -> [usize; COUNTS]
 pub fn is_quiet(board: Board) -> bool
     ensures { result ≡ is_quiet board }
 {
-    let setup = board.setup;
-    let log = board.log;
-    let pool = board.pool;
-    let counts = places_of(board.sites, log.count);
-    quiet_by(&board.flight.masks, setup.n, board.down, pool, &counts)
+    let counts = places_of(board.sites, board.log.count);
+    quiet_by(
+        &board.flight.masks,
+        board.setup.n,
+        board.down,
+        board.pool,
+        &counts,
+    )
 }
 
 // The same of a board at work.
-pub fn is_quiet_at(
-    words: &[u64; SETS],
-    counts: &[usize; COUNTS],
-    bytes: &[u8; BYTES],
-    masks: &[u8; MASKS],
-    setup: Setup,
-) -> bool
-    requires { (setup.n ≤ sites) × (length masks.now ≡ cells) }
-    ensures { (amounts good carried : List ℕ) → result ≡ is_quiet (view setup (arrays words.now counts.now bytes.now amounts masks.now good carried)) }
+pub fn is_quiet_at(board: &Arrays, setup: Setup) -> bool
+    requires { (setup.n ≤ sites) × (length board.now.masks ≡ cells) }
+    ensures { result ≡ is_quiet (view setup board.now) }
 {
-    let pool = load(words, POOL);
-    quiet_by(masks, setup.n, bytes[DOWN], pool, counts)
+    let pool = load(&board.sets, POOL);
+    quiet_by(
+        &board.masks,
+        setup.n,
+        board.bytes[DOWN],
+        pool,
+        &board.counts,
+    )
 }

@@ -9,4 +9,10 @@ books_sound-requires c = sym c.is_sound.ensures ∙ c.if-is_sound.true
 
 pub returns : goal.returns
 unfolding showing shown
-returns c = record { value = rw (sym c.is_sound.ensures ∙ c.if-is_sound.false) refl; out_after = rw (sym c.is_sound.ensures ∙ c.if-is_sound.false) refl; result_value = rw (sym c.is_sound.ensures ∙ c.if-is_sound.false) refl }
+returns c =
+    let unsound = sym c.is_sound.ensures ∙ c.if-is_sound.false in
+    record {
+      value = rw (c.number.ensures, unsound) refl;
+      out_after = rw unsound refl;
+      result_value = rw (c.number.ensures, unsound) refl;
+    }

@@ -3,5 +3,4 @@
 use Rattle.whole_board.proofs.opening.blank_tally.Goals as goal
 
 pub returns : goal.returns
-returns c =
-    rw c.empty-none.ensures
+returns c = rw c.empty.ensures

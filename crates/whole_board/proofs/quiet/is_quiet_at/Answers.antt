@@ -1,7 +1,6 @@
 -- `is_quiet_at` meets its contract.
 -- Assumes nothing.
 use mathlib.Core.Path.{sym, ◌∙◌}
-use Rattle.arrays.specs.Arrays.{arrays}
 use Rattle.machine.specs.View.{view}
 use Rattle.machine.proofs.QuietPartLaws.{quiet_few}
 use Rattle.whole_board.proofs.Places.{places_at}
@@ -10,7 +9,6 @@ use Rattle.whole_board.proofs.quiet.is_quiet_at.Goals as goal
 pub returns : goal.returns
 unfolding view
 returns c =
-    let args = c.args in
-    λ amounts good carried.
-    let a = arrays args.words.now args.counts.now args.bytes.now amounts args.masks.now good carried in
-    c.quiet_by.ensures ∙ rw c.load-pool.ensures (sym (quiet_few (view args.setup a) args.counts.now (places_at args.setup a) c.requires.0 c.requires.1))
+    let g = c.args in
+    let a = g.board.now in
+    c.quiet_by.ensures ∙ rw c.load-pool.ensures (sym (quiet_few (view g.setup a) a.counts (places_at g.setup a) c.requires.0 c.requires.1))
