@@ -1,5 +1,6 @@
 -- Drain's loop on a board by value: one event more, and the ends; which event is next, from the results of the code's search; and the floor that an
 -- event leaves. Rests on NextEvent and Floor, on machine's laws and on invariants. Assumes nothing.
+use Rattle.std.proofs.Common.{None}
 use Prim.Native.Nat.{ℕ, zero, suc, ◌+◌, ◌*◌, ◌-◌, ◌^◌, ◌<◌, ◌≤◌}
 use mathlib.Core.Path.{◌≡◌, refl, sym, ap, ◌∙◌, subst}
 use mathlib.Core.Logic.{◌⊎◌, inl, inr, ◌≢◌}
@@ -11,9 +12,7 @@ use Rattle.sets.proofs.Truth.{not_so}
 use Rattle.sets.specs.Sets.{capacity, members_of}
 use Rattle.site.specs.Sites.{sites}
 use Rattle.site.specs.Steps.{owner_of}
-use Rattle.flight.specs.declared.Found.{Found}
-use Rattle.flight.specs.declared.Found.TheVariants.{Nothing, Message}
-use Rattle.flight.specs.Flights.{pairs, cells, cell_at, taking_out, lowest_from, lowest_in, lowest}
+use Rattle.flight.specs.Flights.{pairs, cells, cell_at, taking_out, lowest_from, lowest_in, lowest, Found, message}
 use Rattle.flight.specs.ByMask.{sending_mask}
 use Rattle.flight.proofs.FloorLaws.{NoneBelow, floor_search, message_floor, nothing_floor}
 use Rattle.site.specs.declared.Setup.{Setup}
@@ -86,11 +85,11 @@ module _ {clean : Bool} (b : Board) (g : GoodIf clean b) (limit count : ℕ) whe
 
 -- ---- which event is next
 
-pub next_message : (b : Board) (form m from to : ℕ) → lowest b.flight (up_mask b) ≡ Message form m from to → next_event b ≡ event (Receive form m from to Whole)
+pub next_message : (b : Board) (form m from to : ℕ) → lowest b.flight (up_mask b) ≡ message form m from to → next_event b ≡ event (Receive form m from to Whole)
 unfolding next_event next_after
 next_message b form m from to e = rw e
 
-pub next_other : (b : Board) → lowest b.flight (up_mask b) ≡ Nothing → next_event b ≡ next_order b (members_of b.pool)
+pub next_other : (b : Board) → lowest b.flight (up_mask b) ≡ None → next_event b ≡ next_order b (members_of b.pool)
 unfolding next_event next_after
 next_other b e = rw e
 
@@ -113,7 +112,7 @@ module _ {clean : Bool} (b : Board) (g : GoodIf clean b) (floor : ℕ) (low : Fl
   unfolding up_mask
   up_small = omega (arith, up_byte_lem b (good_sites b g), pow_mono (good_sites b g))
 
-  module _ (form m from to : ℕ) (e : sought ≡ Message form m from to) where
+  module _ (form m from to : ℕ) (e : sought ≡ message form m from to) where
     pub message_next : next_event b ≡ event (Receive form m from to Whole)
     message_next = next_message b form m from to (sym searched ∙ e)
 
@@ -121,11 +120,11 @@ module _ {clean : Bool} (b : Board) (g : GoodIf clean b) (floor : ℕ) (low : Fl
     pub message_low : Floor b (cell_at form m from)
     message_low = message_floor b.flight.masks (up_byte b.setup.n b.down) up_small form m from to (sym from_all ∙ e)
 
-  pub other_next : sought ≡ Nothing → next_event b ≡ next_order b (members_of b.pool)
+  pub other_next : sought ≡ None → next_event b ≡ next_order b (members_of b.pool)
   other_next e = next_other b (sym searched ∙ e)
 
   -- where nothing was found all cells are below one
-  pub other_low : sought ≡ Nothing → Floor b cells
+  pub other_low : sought ≡ None → Floor b cells
   other_low e = nothing_floor b.flight.masks (up_byte b.setup.n b.down) up_small (sym from_all ∙ e)
 
 -- ---- the loop's invariant: the board is sound, what is left to do from it is what the drain does, and the floor is one

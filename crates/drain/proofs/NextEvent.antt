@@ -1,5 +1,6 @@
 -- The next event of a drain: accepted and whole; and there is one unless the board is quiet.
 -- Rests on flight's search and on invariants. Assumes nothing.
+use Rattle.std.proofs.Common.{Some, None}
 use Prim.Native.Nat.{ℕ, zero, suc, ◌-◌, ◌^◌, ◌<◌, ◌≤◌}
 use mathlib.Core.Path.{◌≡◌, refl, sym, ap, ◌∙◌, subst}
 use mathlib.Core.Logic.{◌⊎◌, inl, inr}
@@ -15,9 +16,7 @@ use Rattle.sets.specs.Masks.{has_bit}
 use Rattle.sets.specs.Numbers.{listed}
 use Rattle.sets.proofs.WordLaws.{listed_members}
 use Rattle.sets.specs.Sets.{has, members_of}
-use Rattle.flight.specs.declared.Found.{Found}
-use Rattle.flight.specs.declared.Found.TheVariants.{Nothing, Message}
-use Rattle.flight.specs.Flights.{in_flight, lowest}
+use Rattle.flight.specs.Flights.{in_flight, lowest, Found, message}
 use Rattle.flight.proofs.LowestLaws.{IsLowest, lowest_found, lowest_nothing}
 use Rattle.machine.specs.declared.Board.{Board}
 use Rattle.steps.specs.declared.Cut.{Cut}
@@ -114,7 +113,7 @@ module _ {clean : Bool} (b : Board) (g : GoodIf clean b) where
   unfolding up_mask
   mask_below = omega (arith, pow_pos b.setup.n)
 
-  message_fine : (form m from to : ℕ) → lowest b.flight (up_mask b) ≡ Message form m from to → Fine b (Receive form m from to Whole)
+  message_fine : (form m from to : ℕ) → lowest b.flight (up_mask b) ≡ message form m from to → Fine b (Receive form m from to Whole)
   message_fine form m from to e =
       let l = lowest_found b.flight g.shape.flight (up_mask b) form m from to e in
       let there = bit_below b.setup.n (up_mask b) to mask_below l.comes in
@@ -130,8 +129,8 @@ module _ {clean : Bool} (b : Board) (g : GoodIf clean b) where
   next_fine c e = go (lowest b.flight (up_mask b)) refl e
     where
       go : (r : Found) → lowest b.flight (up_mask b) ≡ r → next_after b r ≡ event c → Fine b c
-      go Nothing h e = order_fine (members_of b.pool) refl c e
-      go (Message form m from to) h e = subst (λ (d : Call). Fine b d) (event_same e) (message_fine form m from to h)
+      go None h e = order_fine (members_of b.pool) refl c e
+      go (Some m) h e = subst (λ (d : Call). Fine b d) (event_same e) (message_fine m.form m.posting m.from m.to h)
 
   left_none : next_event b ≡ none → NothingLeft b
   unfolding next_event next_after
@@ -140,7 +139,7 @@ module _ {clean : Bool} (b : Board) (g : GoodIf clean b) where
       up_is : (p : ℕ) → p < b.setup.n → is_down b p ≡ false → is_up b p ≡ true
       up_is p lt h = rw (lt-ltb p b.setup.n lt, h)
 
-      nothing : lowest b.flight (up_mask b) ≡ Nothing → next_order b (members_of b.pool) ≡ none → NothingLeft b
+      nothing : lowest b.flight (up_mask b) ≡ None → next_order b (members_of b.pool) ≡ none → NothingLeft b
       nothing h e (Offer site kind account other amount cut) a = absurd (never a refl)
       nothing h e (Receive form m from to cut) a = not_so (accepted (taking b (Receive form m from to cut)).answer) (λ t.
           let k = receipt_taken b form m from to cut (unfold taking in t) in
@@ -153,8 +152,8 @@ module _ {clean : Bool} (b : Board) (g : GoodIf clean b) where
       nothing h e (Crash site) a = absurd (never a refl)
 
       go : (r : Found) → lowest b.flight (up_mask b) ≡ r → next_after b r ≡ none → NothingLeft b
-      go Nothing h e = nothing h e
-      go (Message form m from to) h e = absurd (not_none (sym e))
+      go None h e = nothing h e
+      go (Some m) h e = absurd (not_none (sym e))
 
   -- ---- the laws
 

@@ -10,8 +10,7 @@ use Rattle.sets.specs.Sets.{capacity}
 use Rattle.posting.proofs.ConflictLaws.{offered_below}
 use Rattle.site.specs.Sites.{sites}
 use Rattle.site.specs.Sends.{forms}
-use Rattle.flight.specs.declared.Found.TheVariants.{Message}
-use Rattle.flight.specs.Flights.{pairs, cells, cell_at, receivers_in, message_at, lowest_from}
+use Rattle.flight.specs.Flights.{pairs, cells, cell_at, receivers_in, message_at, lowest_from, message}
 use Rattle.flight.proofs.LowestLaws.{place_cell}
 use Rattle.flight.proofs.FloorLaws.{pass_over}
 use Rattle.machine.specs.declared.Board.{Board}
@@ -48,7 +47,7 @@ module _ (offered form k end : ℕ) (s : Stands offered form k end) where
       pub place_at : k ≡ cell_at form (k / sites % capacity) (k % sites)
       place_at = sym (rw (← form_at) (place_cell k in_cells))
 
-      pub message_at_lem : (to : ℕ) → Message form (k / sites % capacity) (k % sites) to ≡ message_at k to
+      pub message_at_lem : (to : ℕ) → message form (k / sites % capacity) (k % sites) to ≡ message_at k to
       message_at_lem to = rw form_at
 
       pub next_cell : Stands offered form (k + 1) end

@@ -1,5 +1,6 @@
 -- Drain's loop on a board at work: its invariant, a turn of each kind, and its ends, from the results of the code's calls.
 -- Rests on Loop and Nexts, on machine's law of a call on the arrays of a sound board. Assumes nothing.
+use Rattle.std.proofs.Common.{Some, None}
 use Prim.Native.Nat.{ℕ, ◌+◌, ◌*◌, ◌<◌, ◌≤◌}
 use mathlib.Core.Path.{◌≡◌, sym, ap, ◌∙◌, subst}
 use mathlib.Core.Logic.{◌≢◌}
@@ -12,9 +13,7 @@ use Rattle.posting.specs.declared.Table.{Table}
 use Rattle.site.specs.declared.Setup.{Setup}
 use Rattle.site.specs.Sites.{sites}
 use Rattle.site.specs.Sends.{forms}
-use Rattle.flight.specs.declared.Found.{Found}
-use Rattle.flight.specs.declared.Found.TheVariants.{Nothing, Message}
-use Rattle.flight.specs.Flights.{pairs, cells, cell_at, lowest_from}
+use Rattle.flight.specs.Flights.{pairs, cells, cell_at, lowest_from, Found, message}
 use Rattle.steps.specs.declared.Cut.TheVariants.{Whole}
 use Rattle.steps.specs.declared.Call.{Call}
 use Rattle.steps.specs.declared.Call.TheVariants.{Receive, Order, Read}
@@ -123,8 +122,8 @@ module _ (setup : Setup) (board : Board) (limit : ℕ) (a : Arrays) (count floor
   module _ (up : ℕ) (masked : up ≡ up_byte setup.n (byte a.bytes down_at)) where
     -- where the search stopped: at the cell of the message found, or behind all
     abbrev Stopped : ℕ → ℕ → Found → Type 0
-    Stopped k last Nothing = Stands (offered_in a) forms cells last
-    Stopped k last (Message form m from to) = (k ≡ cell_at form m from) × Stands (offered_in a) form k last
+    Stopped k last None = Stands (offered_in a) forms cells last
+    Stopped k last (Some m) = (k ≡ cell_at m.form m.posting m.from) × Stands (offered_in a) m.form k last
 
     -- what it found from the floor on
     abbrev pub Sought : ℕ → ℕ → Found → Type 0
@@ -135,7 +134,7 @@ module _ (setup : Setup) (board : Board) (limit : ℕ) (a : Arrays) (count floor
 
     -- ---- a message was found
 
-    module _ (form m from to k last : ℕ) (found : Sought k last (Message form m from to)) where
+    module _ (form m from to k last : ℕ) (found : Sought k last (message form m from to)) where
       receives : next_event b ≡ event (Receive form m from to Whole)
       unfolding view
       receives = message_next b g floor w.going.low up masked form m from to (sym found.0)
@@ -159,7 +158,7 @@ module _ (setup : Setup) (board : Board) (limit : ℕ) (a : Arrays) (count floor
 
     -- ---- none was found
 
-    module _ (last : ℕ) (found : Sought cells last Nothing) (first : ℕ) (pooled : first ≡ first_below (has (slot_set a.sets pool_slot)) capacity) where
+    module _ (last : ℕ) (found : Sought cells last None) (first : ℕ) (pooled : first ≡ first_below (has (slot_set a.sets pool_slot)) capacity) where
       others : next_event b ≡ next_order b (members_of b.pool)
       unfolding view
       others = other_next b g floor w.going.low up masked (sym found.0)

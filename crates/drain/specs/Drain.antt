@@ -1,10 +1,8 @@
 -- The next event of a board, and drain: events, uncut, until the board is quiet or the limit is used up.
 -- Rests on machine and flight.
-use Rattle.std.specs.Prelude.{ℕ, zero, suc, ◌+◌, Bool, true, false, cond, not, ◌&&◌, ◌||◌, List, [], ◌∷◌, eqb, ltb}
+use Rattle.std.specs.Prelude.{ℕ, zero, suc, ◌+◌, Bool, true, false, cond, not, ◌&&◌, ◌||◌, List, [], ◌∷◌, eqb, ltb, Some, None}
 use Rattle.sets.specs.Sets.{members_of}
-use Rattle.flight.specs.declared.Found.{Found}
-use Rattle.flight.specs.declared.Found.TheVariants.{Nothing, Message}
-use Rattle.flight.specs.Flights.{lowest}
+use Rattle.flight.specs.Flights.{Found, lowest}
 use Rattle.machine.specs.declared.Board.{Board}
 use Rattle.steps.specs.declared.Cut.TheVariants.{Whole, After}
 use Rattle.steps.specs.declared.Call.{Call}
@@ -38,8 +36,8 @@ next_order b (m ∷ l) = event (Order m)
 
 -- The next event is the receipt lowest by form, posting, from, to at a site that is up; else an order; else a read.
 unfoldable pub next_after : Board → Found → Next
-next_after b Nothing = next_order b (members_of b.pool)
-next_after b (Message form m from to) = event (Receive form m from to Whole)
+next_after b None = next_order b (members_of b.pool)
+next_after b (Some m) = event (Receive m.form m.posting m.from m.to Whole)
 
 unfoldable pub next_event : Board → Next
 next_event b = next_after b (lowest b.flight (up_mask b))

@@ -3,16 +3,15 @@
 #![tactic(auto)]
 
 ghost use Rattle.std.specs.Prelude.{◌≡◌, true, false};
-ghost use Rattle.arrays.specs.Arrays.{arrays};
 ghost use Rattle.machine.specs.Soundness.{is_sound};
 ghost use Rattle.machine.specs.View.{view, Right};
 ghost use Rattle.invariants.proofs.Reached.{GoodIf};
 ghost use Rattle.drain.specs.Drain.{ending_of, draining, drained};
 
-use arrays::{BYTES, COUNTS, DOWN, OFFERED, SETS};
+use arrays::{Arrays, DOWN, OFFERED};
 use calls::{order, read};
 use events::receipts::receive;
-use flight::{FORMS, Found, LOADS, MASKS, PAIRS};
+use flight::{FORMS, MASKS, Message, PAIRS};
 use machine::Board;
 use machine::laying::lay_out;
 use machine::taking::board_of;
@@ -20,7 +19,7 @@ use masks::has_site;
 use next::{floor_after, lowest_pooled, next_reader};
 use sets::POSTINGS;
 use site::{SITES, Setup};
-use steps::Cut;
+use steps::{Cut, Receipt, Refusal};
 use whole_board::quiet::up_mask;
 
 pub mod next;
@@ -51,111 +50,85 @@ pub struct Done {
 
 // Drain, of a sound board at work. No cell below the floor has a message for a site that is up, so the search begins there, in the floor's form.
 // What is in flight is of postings offered, so in each form it looks at their cells only, which come first and end at `end`.
-pub fn drain_events(
-    words: &mut [u64; SETS],
-    counts: &mut [usize; COUNTS],
-    bytes: &mut [u8; BYTES],
-    amounts: &mut [u32; POSTINGS],
-    masks: &mut [u8; MASKS],
-    good: &mut [u8; PAIRS],
-    carried: &mut [u64; LOADS],
-    setup: Setup,
-    limit: u64,
-) -> Done
-    requires { Right (arrays words.old counts.old bytes.old amounts.old masks.old good.old carried.old) × GoodIf false (view setup (arrays words.old counts.old bytes.old amounts.old masks.old good.old carried.old)) }
-    ensures carried_after { view setup (arrays words.new counts.new bytes.new amounts.new masks.new good.new carried.new) ≡ (draining limit limit 0 (view setup (arrays words.old counts.old bytes.old amounts.old masks.old good.old carried.old))).board }
-    ensures count_value { result.count ≡ (draining limit limit 0 (view setup (arrays words.old counts.old bytes.old amounts.old masks.old good.old carried.old))).count }
-    ensures ending_value { result.ending ≡ (draining limit limit 0 (view setup (arrays words.old counts.old bytes.old amounts.old masks.old good.old carried.old))).ending }
-    ensures right { Right (arrays words.new counts.new bytes.new amounts.new masks.new good.new carried.new) }
-    ensures ending_value_2 { ending_of result.ending ≡ ending_of (draining limit limit 0 (view setup (arrays words.old counts.old bytes.old amounts.old masks.old good.old carried.old))).ending }
+pub fn drain_events(board: &mut Arrays, setup: Setup, limit: u64) -> Done
+    requires { Right board.old × GoodIf false (view setup board.old) }
+    ensures carried_after { view setup board.new ≡ (draining limit limit 0 (view setup board.old)).board }
+    ensures count_value { result.count ≡ (draining limit limit 0 (view setup board.old)).count }
+    ensures ending_value { result.ending ≡ (draining limit limit 0 (view setup board.old)).ending }
+    ensures right { Right board.new }
+    ensures ending_value_2 { ending_of result.ending ≡ ending_of (draining limit limit 0 (view setup board.old)).ending }
 {
     let mut count: u64 = 0;
     let mut floor: usize = 0;
     let mut floor_form: usize = 0;
-    let mut end = counts[OFFERED] * SITES;
+    let mut end = board.counts[OFFERED] * SITES;
     let ending = loop {
-        let up = up_mask(setup.n, bytes[DOWN]);
-        let mut found = Found::Nothing;
+        let up = up_mask(setup.n, board.bytes[DOWN]);
+        let mut found = None;
         let mut start = floor;
         'search: for form in floor_form..FORMS {
             for k in start..end {
-                let w = masks[k] & up;
+                let w = board.masks[k] & up;
                 if w == 0 {
                     continue;
                 }
                 for to in 0..SITES {
                     if has_site(w, to as u8) {
                         start = k;
-                        found = Found::Message {
-                            form: form,
+                        found = Some(Message {
+                            form,
                             posting: k / SITES % POSTINGS,
                             from: k % SITES,
-                            to: to,
-                        };
+                            to,
+                        });
                         break 'search;
                     }
                 }
             }
             start = (form + 1) * PAIRS;
-            end = end + PAIRS;
+            end += PAIRS;
         }
         match found {
-            Found::Message {
-                form,
-                posting,
-                from,
-                to,
-            } => {
+            Some(message) => {
                 if count == limit {
                     break Ending::Spent;
                 }
-                let why = receive(
-                    words,
-                    counts,
-                    bytes,
-                    masks,
-                    good,
-                    carried,
-                    setup,
-                    form,
-                    posting,
-                    from,
-                    to,
-                    Cut::Whole,
-                );
-                floor = floor_after(start, form, posting, to);
-                floor_form = form;
-                count = count + 1;
+                let receipt = Receipt {
+                    posting: message.posting,
+                    from: message.from,
+                    to: message.to,
+                    cut: Cut::Whole,
+                };
+                let _ = receive(board, setup, message.form, receipt);
+                floor = floor_after(start, message.form, message.posting, message.to);
+                floor_form = message.form;
+                count += 1;
             }
-            Found::Nothing => {
+            None => {
                 floor = MASKS;
                 floor_form = FORMS;
-                let first = lowest_pooled(words);
+                let first = lowest_pooled(&board.sets);
                 if first < POSTINGS {
                     if count == limit {
                         break Ending::Spent;
                     }
-                    let why = order(words, counts, bytes, first);
-                    count = count + 1;
+                    let _ = order(board, first);
+                    count += 1;
                     continue;
                 }
-                let reader = next_reader(counts, setup.n, bytes[DOWN]);
-                let n = setup.n as usize;
-                if n <= reader {
+                let reader = next_reader(&board.counts, setup.n, board.bytes[DOWN]);
+                if usize::from(setup.n) <= reader {
                     break Ending::Quiet;
                 }
                 if count == limit {
                     break Ending::Spent;
                 }
-                let why = read(words, counts, bytes, setup, reader, Cut::Whole);
-                count = count + 1;
+                let _ = read(board, setup, reader, Cut::Whole);
+                count += 1;
             }
         }
     };
-    Done {
-        count: count,
-        ending: ending,
-    }
+    Done { count, ending }
 }
 
 // Drain, of a sound board by value: laid out on arrays, drained there, and taken off them.
@@ -164,35 +137,14 @@ fn drain_board(board: Board, limit: u64) -> Drained
     ensures { result ≡ draining limit limit 0 board }
 {
     let setup = board.setup;
-    let flight = board.flight;
-    let mut words = [0; SETS];
-    let mut counts = [0; COUNTS];
-    let mut bytes = [0; BYTES];
-    let mut amounts = [0; POSTINGS];
-    let mut masks = flight.masks;
-    let mut good = flight.good;
-    let mut carried = flight.carried;
-    lay_out(&mut words, &mut counts, &mut bytes, &mut amounts, board);
-    let done = drain_events(
-        &mut words,
-        &mut counts,
-        &mut bytes,
-        &mut amounts,
-        &mut masks,
-        &mut good,
-        &mut carried,
-        setup,
-        limit,
-    );
-    let after = board_of(
-        &words, &counts, &bytes, &amounts, masks, good, carried, setup,
-    );
-    let ending = done.ending;
+    let mut arrays = lay_out(board);
+    let done = drain_events(&mut arrays, setup, limit);
+    let after = board_of(&arrays, setup);
     Drained {
         board: after,
-        limit: limit,
+        limit,
         count: done.count,
-        ending: ending,
+        ending: done.ending,
     }
 }
 
@@ -205,9 +157,9 @@ pub fn drain(board: Board, limit: u64) -> Drained
         return drain_board(board, limit);
     }
     Drained {
-        board: board,
-        limit: limit,
+        board,
+        limit,
         count: 0,
-        ending: Ending::Refused(6),
+        ending: Ending::Refused(Refusal::Unsound.number()),
     }
 }

@@ -1,5 +1,6 @@
 -- Laws of a search that passes over cells with nothing for a site of the mask, and of one from a floor on, a cell below which all are such: it finds
 -- what the whole search finds, and where that stands is a floor again, also after others were sent. Rests on SearchLaws and LowestLaws. Assumes nothing.
+use Rattle.std.proofs.Common.{None}
 use Prim.Native.Nat.{ℕ, zero, suc, ◌+◌, ◌/◌, ◌%◌, ◌^◌, ◌<◌, ◌≤◌}
 use mathlib.Core.Path.{◌≡◌, refl, sym, ap, ◌∙◌}
 use mathlib.Core.Logic.{inl}
@@ -15,11 +16,10 @@ use borrow.Author.Tests.{eq-eqb}
 use Rattle.sets.proofs.MaskLaws.{has_bit_zero, has_bit_and, bits_ext}
 use Rattle.sets.specs.Sets.{capacity}
 use Rattle.site.specs.Sites.{sites}
-use Rattle.flight.specs.declared.Found.TheVariants.{Nothing, Message}
-use Rattle.flight.specs.Flights.{pairs, cells, cell_at, sending_to, taking_from, message_at, lowest_from, lowest_in}
+use Rattle.flight.specs.Flights.{pairs, cells, cell_at, sending_to, taking_from, message_at, lowest_from, lowest_in, message}
 use Rattle.flight.proofs.ArrayLaws.{write_keeps}
 use Rattle.flight.proofs.SearchLaws.{cell_step, cell_end, comes_at, CellFound, none, cell, cell_found}
-use Rattle.flight.proofs.LowestLaws.{never_both, place_cell}
+use Rattle.flight.proofs.LowestLaws.{message_parts, never_both, place_cell}
 
 -- no cell below the floor has a receiver of the mask
 abbrev pub NoneBelow : List ℕ → ℕ → ℕ → Type 0
@@ -60,22 +60,20 @@ module _ (masks : List ℕ) (up : ℕ) where
       (λ b v. has_bit_and here up b ∙ (rw (← same) (rest b v)) ∙ sym (has_bit_zero b))
 
   -- the message found stands in the lowest cell that has a receiver of the mask
-  pub message_floor : up < 2 ^ sites → (form m from to : ℕ) → lowest_in masks up ≡ Message form m from to → NoneBelow masks up (cell_at form m from)
+  pub message_floor : up < 2 ^ sites → (form m from to : ℕ) → lowest_in masks up ≡ message form m from to → NoneBelow masks up (cell_at form m from)
   message_floor small form m from to e = go (cell_found 0 (take cells masks) up)
     where
       go : CellFound 0 (take cells masks) up → NoneBelow masks up (cell_at form m from)
       go (none n rest) = absurd (never_both (sym n ∙ e))
       go (cell j b hj hb n t rest) =
           let in_cells : j < cells = omega (arith, length-take cells masks) in
-          let q : message_at j b ≡ Message form m from to = ap (λ (k : ℕ). message_at k b) (omega arith) ∙ sym n ∙ e in
-          let q0 : j / pairs ≡ form = cc in
-          let q1 : j / sites % capacity ≡ m = cc in
-          let q2 : j % sites ≡ from = cc in
+          let q : message_at j b ≡ message form m from to = ap (λ (k : ℕ). message_at k b) (omega arith) ∙ sym n ∙ e in
+          let (q0, q1, q2, q3) = message_parts (j / pairs) (j / sites % capacity) (j % sites) b form m from to q in
           let at : cell_at form m from ≡ j = rw (← q0, ← q1, ← q2) (place_cell j in_cells) in
           λ k h. cell_empty small k (omega arith) (λ c v. rest k c v (inl (omega arith)))
 
   -- where nothing is found no cell has one
-  pub nothing_floor : up < 2 ^ sites → lowest_in masks up ≡ Nothing → NoneBelow masks up cells
+  pub nothing_floor : up < 2 ^ sites → lowest_in masks up ≡ None → NoneBelow masks up cells
   nothing_floor small e = go (cell_found 0 (take cells masks) up)
     where
       go : CellFound 0 (take cells masks) up → NoneBelow masks up cells

@@ -1,5 +1,6 @@
 -- What the search finds in a flight: nothing, and then no message in flight is for a site of the mask; else a message that is in flight, to
 -- a site of the mask, with none such lower by form, posting, from, to. Rests on Flights, SearchLaws and CellLaws. Assumes nothing.
+use Rattle.std.proofs.Common.{Some, None}
 use Prim.Native.Nat.{ℕ, ◌+◌, ◌*◌, ◌/◌, ◌%◌, ◌<◌}
 use mathlib.Core.Path.{◌≡◌, sym, ap, ◌∙◌}
 use mathlib.Core.Logic.{◌⊎◌, inl, inr}
@@ -15,8 +16,8 @@ use Rattle.sets.specs.Sets.{capacity}
 use Rattle.site.specs.Sites.{sites}
 use Rattle.site.specs.Sends.{forms}
 use Rattle.flight.specs.declared.Flight.{Flight}
-use Rattle.flight.specs.declared.Found.TheVariants.{Nothing, Message}
-use Rattle.flight.specs.Flights.{pairs, cells, is_cell, cell_at, receivers_in, message_in, in_flight, message_at, lowest_from, lowest}
+use Rattle.flight.specs.declared.Message.{Message}
+use Rattle.flight.specs.Flights.{Found, pairs, cells, is_cell, cell_at, receivers_in, message_in, in_flight, message_at, lowest_from, lowest, message}
 use Rattle.flight.specs.Shapes.{Shape}
 use Rattle.flight.proofs.CellLaws.{range_cell, cell_in}
 use Rattle.flight.proofs.FlightLaws.{in_flight_range}
@@ -32,7 +33,20 @@ pub record IsLowest (flight : Flight) (up f x a b : ℕ) : Type 0 where
   pub comes : has_bit up b ≡ true
   pub least : (g y c d : ℕ) → in_flight flight g y c d ≡ true → has_bit up d ≡ true → is_lower g y c d f x a b ≡ false
 
-pub never_both : {f x a b : ℕ} → Nothing ≡ Message f x a b → ⊥
+-- two messages that are the same have the same parts
+found_or : Message → Found → Message
+found_or m None = m
+found_or m (Some n) = n
+
+pub message_parts : (f x a b g y c d : ℕ) → message f x a b ≡ message g y c d → (f ≡ g) × (x ≡ y) × (a ≡ c) × (b ≡ d)
+unfolding found_or
+message_parts f x a b g y c d e =
+    let m : Message = record { form = f; posting = x; from = a; to = b } in
+    let n : Message = record { form = g; posting = y; from = c; to = d } in
+    let same : m ≡ n = ap (found_or m) e in
+    (ap (λ (r : Message). r.form) same, ap (λ (r : Message). r.posting) same, ap (λ (r : Message). r.from) same, ap (λ (r : Message). r.to) same)
+
+pub never_both : {f x a b : ℕ} → None ≡ message f x a b → ⊥
 never_both e = let z : ◌≡◌ {A = ℕ} 0 1 = cc in omega arith
 
 -- ---- cells by their place
@@ -129,15 +143,12 @@ module _ (flight : Flight) (s : Shape flight) (up : ℕ) where
             before e (inl l) = inl (omega (arith, in_cells))
             before e (inr l) = inr (omega (arith, in_cells), l.1)
 
-  pub lowest_found : (f x a b : ℕ) → lowest flight up ≡ Message f x a b → IsLowest flight up f x a b
+  pub lowest_found : (f x a b : ℕ) → lowest flight up ≡ message f x a b → IsLowest flight up f x a b
   lowest_found f x a b e = go search_all
     where
-      at : (k d : ℕ) → IsLowest flight up (k / pairs) (k / sites % capacity) (k % sites) d → message_at k d ≡ Message f x a b → IsLowest flight up f x a b
+      at : (k d : ℕ) → IsLowest flight up (k / pairs) (k / sites % capacity) (k % sites) d → message_at k d ≡ message f x a b → IsLowest flight up f x a b
       at k d l q =
-          let q0 : k / pairs ≡ f = cc in
-          let q1 : k / sites % capacity ≡ x = cc in
-          let q2 : k % sites ≡ a = cc in
-          let q3 : d ≡ b = cc in
+          let (q0, q1, q2, q3) = message_parts (k / pairs) (k / sites % capacity) (k % sites) d f x a b q in
           rw (q0, q1, q2, q3) at l
 
       go : Search → IsLowest flight up f x a b
@@ -148,7 +159,7 @@ module _ (flight : Flight) (s : Shape flight) (up : ℕ) where
 
   -- ---- nothing found
 
-  pub lowest_nothing : lowest flight up ≡ Nothing → (f x a b : ℕ) → in_flight flight f x a b ≡ true → has_bit up b ≡ false
+  pub lowest_nothing : lowest flight up ≡ None → (f x a b : ℕ) → in_flight flight f x a b ≡ true → has_bit up b ≡ false
   lowest_nothing e f x a b t = go search_all
     where
       go : Search → has_bit up b ≡ false

@@ -1,5 +1,6 @@
 -- Laws of the search for the lowest message: its steps, cell by cell and site by site, as a loop makes them; what it finds.
 -- Rests on Flights and the laws of cells. Assumes nothing.
+use Rattle.std.proofs.Common.{None}
 use Prim.Native.Nat.{ℕ, zero, suc, ◌+◌, ◌-◌, ◌<◌, ◌≤◌}
 use mathlib.Core.Path.{◌≡◌, refl, sym, ap, ◌∙◌}
 use mathlib.Core.Logic.{◌⊎◌, inl, inr}
@@ -17,9 +18,7 @@ use Rattle.sets.specs.Masks.{has_bit}
 use Rattle.sets.proofs.MaskLaws.{has_bit_zero, has_bit_and}
 use Rattle.sets.proofs.Truth.{test}
 use Rattle.site.specs.Sites.{sites}
-use Rattle.flight.specs.declared.Found.{Found}
-use Rattle.flight.specs.declared.Found.TheVariants.{Nothing}
-use Rattle.flight.specs.Flights.{cells, message_at, lowest_to, lowest_from, nothing_comes}
+use Rattle.flight.specs.Flights.{cells, message_at, lowest_to, lowest_from, nothing_comes, Found}
 
 -- ---- the sites of a mask
 
@@ -69,7 +68,7 @@ module _ (masks : List ℕ) (up k : ℕ) where
     | inr g ↦ rw (g.0, g.1, g.2)
   ]
 
-  pub cell_end : cells ≤ k → lowest_from k (drop k (take cells masks)) up ≡ Nothing
+  pub cell_end : cells ≤ k → lowest_from k (drop k (take cells masks)) up ≡ None
   unfolding lowest_from
   cell_end h = let past : length (take cells masks) ≤ k = omega (arith, length-take cells masks) in rw (drop_of_length-le (take cells masks) past)
 
@@ -118,7 +117,7 @@ comes_at l up j b = has_bit (get_or l j 0) b && has_bit up b
 
 -- nothing is for a site of the mask; or the message of cell k + j to site b is the lowest
 pub data CellFound (k : ℕ) (l : List ℕ) (up : ℕ) : Type 0 where
-  none : lowest_from k l up ≡ Nothing → ((j b : ℕ) → b < sites → comes_at l up j b ≡ false) → CellFound k l up
+  none : lowest_from k l up ≡ None → ((j b : ℕ) → b < sites → comes_at l up j b ≡ false) → CellFound k l up
   cell :
       (j b : ℕ) → j < length l → b < sites → lowest_from k l up ≡ message_at (k + j) b → comes_at l up j b ≡ true
       → ((i c : ℕ) → c < sites → (i < j) ⊎ ((i ≡ j) × (c < b)) → comes_at l up i c ≡ false)

@@ -1,6 +1,6 @@
 -- What is in flight: a set of (form, posting, from, to), a SECOND with its GOOD or BAD and a THIRD with its carried set.
--- Rests on the declared Flight and Found, on site's sends and on sets. A definition on one array is what a function on it promises.
-use Rattle.std.specs.Prelude.{ℕ, zero, suc, ◌+◌, ◌*◌, ◌-◌, ◌/◌, ◌%◌, ◌^◌, Bool, true, false, cond, not, ◌&&◌, List, [], ◌∷◌, eqb, ltb, get_or, set, take, replicate}
+-- Rests on the declared Flight and Message, on site's sends and on sets. A definition on one array is what a function on it promises.
+use Rattle.std.specs.Prelude.{ℕ, zero, suc, ◌+◌, ◌*◌, ◌-◌, ◌/◌, ◌%◌, ◌^◌, Bool, true, false, cond, not, ◌&&◌, List, [], ◌∷◌, eqb, ltb, get_or, set, take, replicate, Option, Some, None}
 use Rattle.std.proofs.lemmas.List.Edits.{sets}
 use Rattle.std.specs.Int.Bits.{bit_or, bit_and}
 use Rattle.sets.specs.declared.Set.{Set}
@@ -9,8 +9,7 @@ use Rattle.sets.specs.Sets.{words, capacity, of_words, empty_set}
 use Rattle.site.specs.Sites.{sites}
 use Rattle.site.specs.Sends.{FIRST, SECOND, THIRD, DELIVER, forms, Send, first, second, third, deliver, entry}
 use Rattle.flight.specs.declared.Flight.{Flight}
-use Rattle.flight.specs.declared.Found.{Found}
-use Rattle.flight.specs.declared.Found.TheVariants.{Nothing, Message}
+use Rattle.flight.specs.declared.Message.{Message}
 
 -- ---- places
 
@@ -135,9 +134,16 @@ taking_out flight form m from to =
 
 -- ---- the lowest message
 
+-- what a search finds: a message, or none
+abbrev pub Found : Type 0
+Found = Option Message
+
+abbrev pub message : ℕ → ℕ → ℕ → ℕ → Found
+message form m from to = Some (record { form = form; posting = m; from = from; to = to })
+
 -- cell k, as form, posting, sender, and a receiver
 abbrev pub message_at : ℕ → ℕ → Found
-message_at k to = Message (k / pairs) (k / sites % capacity) (k % sites) to
+message_at k to = message (k / pairs) (k / sites % capacity) (k % sites) to
 
 -- the message of cell k to the lowest site of a mask, of n sites from `to` on; else what comes after
 unfoldable pub lowest_to : ℕ → ℕ → ℕ → ℕ → Found → Found
@@ -148,7 +154,7 @@ lowest_to k mask to (suc n) after =
 
 -- the lowest message by form, posting, from, to at a site of the mask, from cell k on
 unfoldable pub lowest_from : ℕ → List ℕ → ℕ → Found
-lowest_from k [] up = Nothing
+lowest_from k [] up = None
 lowest_from k (mask ∷ l) up =
     let after = lowest_from (suc k) l up in
     cond (eqb (bit_and mask up) 0) after (lowest_to k (bit_and mask up) 0 sites after)

@@ -30,16 +30,13 @@ pub struct Flight {
     pub carried: [u64; LOADS],
 }
 
-// What a search finds.
-#[derive(Drop)]
-pub enum Found {
-    Nothing,
-    Message {
-        form: usize,
-        posting: usize,
-        from: usize,
-        to: usize,
-    },
+// A message in flight.
+#[derive(Clone, Copy)]
+pub struct Message {
+    pub form: usize,
+    pub posting: usize,
+    pub from: usize,
+    pub to: usize,
 }
 
 impl Flight {

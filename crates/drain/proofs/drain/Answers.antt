@@ -15,4 +15,6 @@ returns-then-is_sound c =
 
 pub returns : goal.returns
 unfolding drained
-returns c = record { value = rw (sym c.is_sound.ensures ∙ c.if-is_sound.false) refl; ending_value = rw (sym c.is_sound.ensures ∙ c.if-is_sound.false) refl }
+returns c =
+    let unsound = sym c.is_sound.ensures ∙ c.if-is_sound.false in
+    rw c.number.ensures (record { value = rw unsound refl; ending_value = rw unsound refl })
