@@ -19,7 +19,7 @@ pub loop-p-preserved : goal.loop-p-preserved
 unfolding site_lines
 loop-p-preserved c =
     let at = c.loop-p in
-    (search rules, put_as (rw (c.has_site-is_down.ensures, c.record_of-delivered.ensures, c.wide.ensures, add-one)) (then_put at.invariant.1 c.site_line-place.ensures))
+    (search rules, put_as (rw (c.has_site.ensures, c.record_of-delivered.ensures, c.wide.ensures, add-one)) (then_put at.invariant.1 c.site_line-place.ensures))
 
 pub shape_of-out : goal.shape_of-out
 shape_of-out c = put_length c.loop-p.invariant.1
