@@ -1,6 +1,6 @@
 -- A text in a lent slice, whole or not at all: what the slice is then, and what is answered.
 -- Rests on nothing of the repository.
-use Rattle.std.specs.Prelude.{ℕ, ◌+◌, Bool, cond, List, [], ◌∷◌, ◌++◌, Option, Some, None, leb, length, drop}
+use Rattle.std.specs.Prelude.{ℕ, Bool, cond, List, [], ◌∷◌, ◌++◌, Option, Some, None, leb, length, drop}
 
 abbrev pub fits : List ℕ → List ℕ → Bool
 fits text slice = leb (length text) (length slice)

@@ -3,7 +3,6 @@
 use mathlib.Core.Path.{◌≡◌}
 use lib.ListN.{length}
 use borrow.Author.Rules.{rules}
-use native.Mathlib.Omega.{arith}
 use Rattle.std.proofs.lemmas.List.{take_min}
 use Rattle.sets.specs.Sets.{capacity}
 use Rattle.posting.specs.Records.{numbers_of}

@@ -1,7 +1,6 @@
 -- `site_lines` meets its contract. The loop's invariant: the lines of the first p sites are put.
 -- Assumes nothing.
 use mathlib.Core.Path.{◌≡◌, ap}
-use Prim.Native.Nat.{◌-◌}
 use native.Mathlib.Numerals.{add-one}
 use borrow.Author.Rules.{rules}
 use native.Mathlib.Omega.{arith}

@@ -1,6 +1,6 @@
 -- `site_lines` meets its contract. The loop's invariant: the lines of the first p sites are put.
 -- Assumes nothing.
-use Prim.Native.Nat.{◌≤◌, ◌-◌}
+use Prim.Native.Nat.{◌≤◌}
 use Rattle.printer.specs.Output.{site_lines}
 use Rattle.printer.specs.Puts.{Put}
 use Rattle.printer.proofs.print.site_lines.Given as goal
