@@ -4,12 +4,12 @@ use Prim.Native.Nat.{ℕ, suc, min, ◌+◌, ◌-◌, ◌<◌, ◌≤◌}
 use mathlib.Core.Path.{◌≡◌, refl, sym, ap, ◌∙◌}
 use mathlib.Core.Logic.{inl, inr}
 use mathlib.Core.Bool.{cond}
-use mathlib.Core.List.{List, [], ◌∷◌, ◌++◌, append_assoc}
+use mathlib.Core.List.{List, [], ◌∷◌, ◌++◌}
 use native.Mathlib.Numerals.{add-one}
 use native.Mathlib.Omega.{arith}
 use lib.Dec.{ltb, leb}
 use lib.ListN.{length, take, drop, set, length-set, length-append}
-use lib.Seq.{sets, sets-eq, drop-drop, take-append_seam}
+use lib.Seq.{sets, sets-eq, take-append_seam}
 use borrow.Author.Tests.{lt-ltb, ltb-true, ltb-false, leb-true, leb-false, le-leb, lt-leb}
 use Rattle.sets.proofs.Truth.{test}
 use Rattle.std.specs.Prelude.{Option, Some, None}
@@ -75,16 +75,6 @@ putting_sets [] s at h = refl
 putting_sets (x ∷ a) s at h =
     let l : at < last_place = omega arith in
     rw (lt-ltb at last_place l, add-one) (putting_sets a (set s at x) (suc at) (omega arith))
-
--- A text copied into a slice at once: the part is what the slice holds there after that.
-pub copied : (text s part : List ℕ) (at : ℕ) → length s < last_place → at + length text ≤ length s → part ≡ text
-    → Put text at s (take at s ++ (part ++ drop (at + length text - at) (drop at s))) (at + length text)
-copied text s part at room h e =
-    let n : at + length text - at ≡ length text = omega arith in
-    record {
-      moved = omega (arith, after_is text at (omega arith));
-      holds = rw (e, n, drop-drop) (sym (putting_sets text s at (omega arith) ∙ sets-eq text s at h ∙ append_assoc (take at s) text (drop (at + length text) s)));
-    }
 
 -- ---- room
 

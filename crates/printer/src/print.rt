@@ -13,7 +13,9 @@ use masks::has_site;
 use posting::Record;
 use sets::{POSTINGS, wide};
 
-pub const NEWLINE: u8 = 10;
+pub const NEWLINE: u8 = b'\n';
+
+const ZERO: usize = b'0' as usize;
 
 // Below so many events, an event's number has four digits at most.
 const MOST_EVENTS: usize = 10_000;
@@ -50,14 +52,22 @@ fn put_in(byte: u8, at: usize, out: &mut [u8]) -> usize
     at + 1
 }
 
-// Some bytes, at once.
-fn put_all_in(bytes: &[u8], at: usize, out: &mut [u8]) -> usize
-    requires { at + length bytes.now ≤ length out.old }
-    ensures { Put bytes.now at out.old out.new result }
+// Two bytes.
+fn put_pair_in(first: u8, second: u8, at: usize, out: &mut [u8]) -> usize
+    requires { at + 2 ≤ length out.old }
+    ensures { Put (first ∷ second ∷ []) at out.old out.new result }
 {
-    let end = at + bytes.len();
-    out[at..end].copy_from_slice(bytes);
-    end
+    let place = put_in(first, at, out);
+    put_in(second, place, out)
+}
+
+// Four bytes.
+fn put_four_in(first: u8, second: u8, third: u8, fourth: u8, at: usize, out: &mut [u8]) -> usize
+    requires { at + 4 ≤ length out.old }
+    ensures { Put (first ∷ second ∷ third ∷ fourth ∷ []) at out.old out.new result }
+{
+    let place = put_pair_in(first, second, at, out);
+    put_pair_in(third, fourth, place, out)
 }
 
 // One byte.
@@ -82,7 +92,8 @@ pub fn put_text(text: &[u8], at: usize, out: &mut [u8]) -> usize
     place
 }
 
-fn last_digit(x: usize) -> u8
+// The last digit of a number.
+pub fn last_digit(x: usize) -> u8
     ensures { result ≡ last_digit x }
 {
     b'0' + (x % 10) as u8
@@ -106,8 +117,8 @@ fn put_two_in(x: usize, at: usize, out: &mut [u8]) -> usize
     ensures { Put (last_digit (x / 10) ∷ last_digit x ∷ []) at out.old out.new result }
 {
     let low = x % 100;
-    let both = 48 + low / 10 + 256 * (48 + low % 10);
-    put_all_in(&[(both % 256) as u8, (both / 256) as u8], at, out)
+    let both = ZERO + low / 10 + 256 * (ZERO + low % 10);
+    put_pair_in((both % 256) as u8, (both / 256) as u8, at, out)
 }
 
 // A number of one digit, two or three.
@@ -156,9 +167,9 @@ fn answer_in(refusal: u8, at: usize, out: &mut [u8]) -> usize
     ensures { Put (cond (eqb refusal 0) ok_word (no_word ++ (decimal refusal ++ newline))) at out.old out.new result }
 {
     if refusal == 0 {
-        return put_all_in(b" ok\n", at, out);
+        return put_four_in(b' ', b'o', b'k', NEWLINE, at, out);
     }
-    let p = put_all_in(b" no ", at, out);
+    let p = put_four_in(b' ', b'n', b'o', b' ', at, out);
     let q = put_number_in(wide(refusal), p, out);
     put_in(NEWLINE, q, out)
 }
@@ -168,7 +179,7 @@ fn event_line_in(k: usize, refusal: u8, at: usize, out: &mut [u8]) -> usize
     requires { at + 30 ≤ length out.old }
     ensures { Put (event_line k refusal) at out.old out.new result }
 {
-    let p = put_all_in(b"E ", at, out);
+    let p = put_pair_in(b'E', b' ', at, out);
     let q = put_number_in(k, p, out);
     answer_in(refusal, q, out)
 }

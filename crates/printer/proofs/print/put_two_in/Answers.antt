@@ -5,4 +5,4 @@ use Rattle.printer.proofs.Writing.{put_as}
 use Rattle.printer.proofs.print.put_two_in.Goals as goal
 
 pub returns : goal.returns
-returns c = put_as (two_digits c.args.x) c.put_all_in.ensures
+returns c = put_as (two_digits c.args.x) c.put_pair_in.ensures
