@@ -1,6 +1,6 @@
 -- Laws of writing: one text after another is their concatenation; what room is left after a text; a text that fits stands at the beginning, one that does not is seen by its place.
 -- Rests on Writing. Assumes nothing.
-use Prim.Native.Nat.{ℕ, suc, min, ◌+◌, ◌-◌, ◌<◌, ◌≤◌}
+use Prim.Native.Nat.{ℕ, suc, min, ◌+◌, ◌<◌, ◌≤◌}
 use mathlib.Core.Path.{◌≡◌, refl, sym, ap, ◌∙◌}
 use mathlib.Core.Logic.{inl, inr}
 use mathlib.Core.Bool.{cond}
@@ -10,7 +10,7 @@ use native.Mathlib.Omega.{arith}
 use lib.Dec.{ltb, leb}
 use lib.ListN.{length, take, drop, set, length-set, length-append}
 use lib.Seq.{sets, sets-eq, take-append_seam}
-use borrow.Author.Tests.{lt-ltb, ltb-true, ltb-false, leb-true, leb-false, le-leb, lt-leb}
+use borrow.Author.Tests.{lt-ltb, ltb-true, ltb-false, le-leb, lt-leb}
 use Rattle.sets.proofs.Truth.{test}
 use Rattle.std.specs.Prelude.{Option, Some, None}
 use Rattle.printer.specs.Writing.{slice_printed, written_of, answer_printed}
@@ -81,17 +81,6 @@ putting_sets (x ∷ a) s at h =
 -- where there was room for a text and more bytes, there is room for these after it
 pub put_room : {a : List ℕ} {at p : ℕ} {s t : List ℕ} (more : ℕ) → Put a at s t p → at + (length a + more) ≤ length s → p + more ≤ length t
 put_room {a} {at} {p} {s} {t} more x h = omega (arith, x.moved, after_within a at, put_length x)
-
--- the test of room that adds nothing to the place
-pub room_test : (count at all : ℕ) → count ≤ all → leb at (all - count) ≡ leb (at + count) all
-room_test count at all h = elim (test (leb at (all - count))) [
-  | inl t ↦
-      let l : at + count ≤ all = omega (arith, leb-true at (all - count) t) in
-      t ∙ sym (le-leb (at + count) all l)
-  | inr f ↦
-      let l : all < at + count = omega (arith, leb-false at (all - count) f) in
-      f ∙ sym (lt-leb (at + count) all l)
-]
 
 -- ---- a text that fits, and one that does not
 
