@@ -85,7 +85,7 @@ put_room {a} {at} {p} {s} {t} more x h = omega (arith, x.moved, after_within a a
 -- ---- a text that fits, and one that does not
 
 -- nothing is put into no bytes
-none_held : (a : List ℕ) (at : ℕ) → putting [] at a ≡ []
+pub none_held : (a : List ℕ) (at : ℕ) → putting [] at a ≡ []
 unfolding putting
 none_held [] at = refl
 none_held (x ∷ a) at = none_held a (next at)
