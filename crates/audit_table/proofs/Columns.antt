@@ -1,20 +1,25 @@
--- Laws of columns: spaces one by one, a text counted on no bytes of a slice, the heading of a site; and searches for a number that passes, as a loop makes them.
+-- Laws of columns: spaces one by one, a text counted on no bytes of a slice, the heading of a site; and a search over a range for a number that passes.
 -- Rests on Table, on amounts, printer and sets. Assumes nothing.
-use Prim.Native.Nat.{ℕ, zero, suc, min, ◌+◌, ◌-◌, ◌<◌, ◌≤◌}
+use Prim.Native.Nat.{ℕ, zero, suc, min, ◌+◌, ◌<◌, ◌≤◌}
 use mathlib.Core.Path.{◌≡◌, refl, sym, ap, ◌∙◌}
 use mathlib.Core.Logic.{inl, inr}
-use mathlib.Core.Bool.{Bool, false}
+use mathlib.Core.Bool.{Bool, true, false}
 use mathlib.Core.List.{List, [], ◌∷◌, ◌++◌}
 use native.Mathlib.Numerals.{add-one}
 use native.Mathlib.Omega.{arith}
 use lib.Dec.{ltb}
-use lib.ListN.{length}
-use borrow.Author.Tests.{lt-ltb, le-ltb, ltb-true, ltb-false}
+use lib.ListN.{length, get_or}
+use borrow.Author.Tests.{le-ltb, ltb-true, ltb-false}
+use Rattle.std.specs.Bool.{MatchBool}
+use Rattle.std.specs.List.{range_with_len, AllWithin, HoldsAt}
+use Rattle.std.proofs.lemmas.List.FromFn.{length-range_with_len, get_or-range_with_len}
+use Rattle.sets.proofs.BelowLaws.{any_from}
 use Rattle.sets.specs.Below.{any_below}
 use Rattle.sets.proofs.Truth.{test}
 use Rattle.printer.specs.Output.{last_digit, decimal}
-use Rattle.printer.specs.Puts.{last_place, next, after, putting, Put}
+use Rattle.printer.specs.Puts.{last_place, Put}
 use Rattle.printer.proofs.Texts.{decimal_last}
+use Rattle.printer.proofs.Writing.{after_is, none_held}
 use Rattle.amounts.specs.Amounts.{text}
 use Rattle.audit_table.specs.Table.{spaces, gap, column}
 
@@ -27,28 +32,11 @@ spaces_more n = go n ∙ ap spaces (sym (add-one n))
     go zero = refl
     go (suc n) = ap (λ (l : List ℕ). 32 ∷ l) (go n)
 
-pub gap_short : (width n : ℕ) → n < width → width - n ≡ gap width n
-unfolding gap
-gap_short width n h = rw (lt-ltb n width h)
-
-pub gap_long : (width n : ℕ) → width ≤ n → 1 ≡ gap width n
+gap_long : (width n : ℕ) → width ≤ n → 1 ≡ gap width n
 unfolding gap
 gap_long width n h = rw (le-ltb n width h)
 
 -- ---- a text that was counted on no bytes of a slice, which are t after that
-
-after_is : (a : List ℕ) (at : ℕ) → at ≤ last_place → after at a ≡ min (at + length a) last_place
-unfolding after
-after_is [] at h = omega arith
-after_is (x ∷ a) at h = elim (test (ltb at last_place)) [
-  | inl t ↦ rw t (let l : at < last_place = ltb-true at last_place t in omega (arith, after_is a (at + 1) (omega arith)))
-  | inr f ↦ rw f (let l : last_place ≤ at = ltb-false at last_place f in omega (arith, after_is a at h))
-]
-
-none_held : (a : List ℕ) (at : ℕ) → putting [] at a ≡ []
-unfolding putting
-none_held [] at = refl
-none_held (x ∷ a) at = none_held a (next at)
 
 module _ {a t : List ℕ} {n : ℕ} (counted : Put a 0 [] t n) where
   -- the slice is as it was: what is put into it after that
@@ -77,13 +65,18 @@ site_heading p h = let one : decimal p ≡ last_digit p ∷ [] = sym (decimal_la
 
 -- ---- searches
 
-pub any_none : (p : ℕ → Bool) → any_below p 0 ≡ false
+any_fails : (p : ℕ → Bool) (n : ℕ) → ((i : ℕ) → i < n → p i ≡ false) → any_below p n ≡ false
 unfolding any_below
-any_none p = refl
+any_fails p zero h = refl
+any_fails p (suc n) h = rw (any_fails p n (λ i k. h i (omega arith)), h n (omega arith))
 
-pub any_more : (p : ℕ → Bool) (n : ℕ) → any_below p n ≡ false → p n ≡ false → any_below p (n + 1) ≡ false
-unfolding any_below
-any_more p n e f = rw (add-one, e, f)
-
-pub any_end : (p : ℕ → Bool) (n i : ℕ) → i ≡ n → any_below p i ≡ false → any_below p n ≡ false
-any_end p n i e f = ap (any_below p) (sym e) ∙ f
+-- a search over a range
+pub any_range : (p : ℕ → Bool) (n : ℕ) (r : Bool) → MatchBool r ((k : ℕ) × (k < length (range_with_len 0 n)) × HoldsAt (λ x. p x ≡ true) (range_with_len 0 n) k) (AllWithin (λ x. p x ≡ false) (range_with_len 0 n) 0 (length (range_with_len 0 n)))
+    → r ≡ any_below p n
+any_range p n true h =
+    let k : h.0 < n = omega (arith, h.1, length-range_with_len 0 n) in
+    let e : get_or (range_with_len 0 n) h.0 0 ≡ h.0 = omega (arith, get_or-range_with_len 0 n h.0 0 k) in
+    let here : p h.0 ≡ true = rw e at (h.2 0) in
+    sym (any_from p n h.0 k here)
+any_range p n false h =
+    sym (any_fails p n (λ i k. let e : get_or (range_with_len 0 n) i 0 ≡ i = omega (arith, get_or-range_with_len 0 n i 0 k) in rw e at (h i 0 (omega arith) (omega (arith, length-range_with_len 0 n)))))

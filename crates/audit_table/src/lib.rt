@@ -2,14 +2,14 @@
 // Rests on amounts for figures as text, on printer.
 #![tactic(auto)]
 
-ghost use Rattle.std.specs.Prelude.{◌≡◌, ◌<◌, ◌++◌};
+ghost use Rattle.std.specs.Prelude.{◌≡◌, ◌<◌, ◌++◌, not};
 ghost use Rattle.sets.specs.Below.{any_below};
 ghost use Rattle.printer.specs.Output.{decimal};
 ghost use Rattle.printer.specs.Puts.{Put};
-ghost use Rattle.amounts.specs.Amounts.{text};
+ghost use Rattle.amounts.specs.Amounts.{text, same_number};
 ghost use Rattle.audit_table.specs.Table.{spaces, gap, column, label, figure_name, row_name, figure_text, figure_in, columns, row_line, row_differs, row_part, row_parts, site_columns, table_text};
 
-use amounts::{put_cents, put_signed, same_number};
+use amounts::{put_cents, put_signed};
 use printer::print::{NEWLINE, put, put_number, put_text};
 
 const FIGURES: usize = 64;
@@ -22,17 +22,14 @@ const LABEL: usize = 20;
 fn gap(width: usize, n: usize) -> usize
     ensures { result ≡ gap width n }
 {
-    if n < width {
-        return width - n;
-    }
-    1
+    width.saturating_sub(n).max(1)
 }
 
 fn put_spaces(count: usize, at: usize, out: &mut [u8]) -> usize
     ensures { Put (spaces count) at out.old out.new result }
 {
     let mut place = at;
-    for i in 0..count {
+    for _ in 0..count {
         place = put(b' ', place, out);
     }
     place
@@ -42,16 +39,12 @@ fn put_spaces(count: usize, at: usize, out: &mut [u8]) -> usize
 fn figure_name(i: usize, at: usize, out: &mut [u8]) -> usize
     ensures { Put (figure_name i) at out.old out.new result }
 {
-    if i == 0 {
-        return put_text(b" position", at, out);
+    match i {
+        0 => put_text(b" position", at, out),
+        1 => put_text(b" rate", at, out),
+        2 => put_text(b" called", at, out),
+        _ => put_text(b" settled", at, out),
     }
-    if i == 1 {
-        return put_text(b" rate", at, out);
-    }
-    if i == 2 {
-        return put_text(b" called", at, out);
-    }
-    put_text(b" settled", at, out)
 }
 
 fn row_name(row: usize, at: usize, out: &mut [u8]) -> usize
@@ -66,28 +59,27 @@ fn row_name(row: usize, at: usize, out: &mut [u8]) -> usize
 fn put_label(row: usize, at: usize, out: &mut [u8]) -> usize
     ensures { Put (label (row_name row)) at out.old out.new result }
 {
-    let n = row_name(row, 0, &mut out[0..0]);
+    let n = row_name(row, 0, &mut out[..0]);
     let place = row_name(row, at, out);
-    let count = gap(LABEL, n);
-    put_spaces(count, place, out)
+    put_spaces(gap(LABEL, n), place, out)
 }
 
 fn put_figure(row: usize, x: i64, at: usize, out: &mut [u8]) -> usize
     ensures { Put (figure_text row x) at out.old out.new result }
 {
     if row % 4 == 1 {
-        return put_signed(x, at, out);
+        put_signed(x, at, out)
+    } else {
+        put_cents(x, at, out)
     }
-    put_cents(x, at, out)
 }
 
 // A figure at the right end of its column.
 fn put_column(row: usize, x: i64, at: usize, out: &mut [u8]) -> usize
     ensures { Put (column (figure_text row x)) at out.old out.new result }
 {
-    let n = put_figure(row, x, 0, &mut out[0..0]);
-    let count = gap(COLUMN, n);
-    let place = put_spaces(count, at, out);
+    let n = put_figure(row, x, 0, &mut out[..0]);
+    let place = put_spaces(gap(COLUMN, n), at, out);
     put_figure(row, x, place, out)
 }
 
@@ -96,11 +88,7 @@ fn figure_in(figures: &[i64], row: usize, p: usize) -> i64
     requires { (p < 8) × (row < 64) }
     ensures { result ≡ figure_in figures.now row p }
 {
-    let i = FIGURES * p + row;
-    if figures.len() <= i {
-        return 0;
-    }
-    figures[i]
+    figures.get(FIGURES * p + row).copied().unwrap_or(0)
 }
 
 // The columns of the sites in a row.
@@ -110,8 +98,7 @@ fn put_columns(figures: &[i64], n: usize, row: usize, at: usize, out: &mut [u8])
 {
     let mut place = at;
     for p in 0..n {
-        let x = figure_in(figures, row, p);
-        place = put_column(row, x, place, out);
+        place = put_column(row, figure_in(figures, row, p), place, out);
     }
     place
 }
@@ -125,22 +112,20 @@ fn row_line(figures: &[i64], n: usize, row: usize, at: usize, out: &mut [u8]) ->
     put(NEWLINE, q, out)
 }
 
-// Whether some site shows another figure than site 0.
+// Whether a site shows another figure than site 0.
+fn differs(figures: &[i64], row: usize, p: usize) -> bool
+    requires { (p < 8) × (row < 64) }
+    ensures { result ≡ not (same_number (figure_in figures.now row p) (figure_in figures.now row 0)) }
+{
+    figure_in(figures, row, p) != figure_in(figures, row, 0)
+}
+
+// Whether some site does.
 fn row_differs(figures: &[i64], n: usize, row: usize) -> bool
     requires { (n < 8) × (row < 64) }
     ensures { result ≡ row_differs figures.now n row }
 {
-    let first = figure_in(figures, row, 0);
-    let mut p = 0;
-    while p < n {
-        let here = figure_in(figures, row, p);
-        let same = same_number(here, first);
-        if same == false {
-            return true;
-        }
-        p += 1;
-    }
-    false
+    (0..n).any(|p| differs(figures, row, p))
 }
 
 fn row_part(figures: &[i64], n: usize, row: usize, at: usize, out: &mut [u8]) -> usize
@@ -148,9 +133,10 @@ fn row_part(figures: &[i64], n: usize, row: usize, at: usize, out: &mut [u8]) ->
     ensures { Put (row_part figures.now n row) at out.old out.new result }
 {
     if row_differs(figures, n, row) {
-        return row_line(figures, n, row, at, out);
+        row_line(figures, n, row, at, out)
+    } else {
+        at
     }
-    at
 }
 
 fn row_parts(figures: &[i64], n: usize, at: usize, out: &mut [u8]) -> usize
@@ -169,14 +155,7 @@ fn any_differs(figures: &[i64], n: usize) -> bool
     requires { n < 8 }
     ensures { result ≡ any_below (row_differs figures.now n) 64 }
 {
-    let mut row = 0;
-    while row < FIGURES {
-        if row_differs(figures, n, row) {
-            return true;
-        }
-        row += 1;
-    }
-    false
+    (0..FIGURES).any(|row| row_differs(figures, n, row))
 }
 
 // The heading of a site's column, of 16 bytes: the number of a site has one digit.
@@ -204,8 +183,7 @@ pub fn put_table(figures: &[i64], n: usize, at: usize, out: &mut [u8]) -> usize
     requires { n < 8 }
     ensures { Put (table_text figures.now n) at out.old out.new result }
 {
-    let differ = any_differs(figures, n);
-    if differ == false {
+    if !any_differs(figures, n) {
         return put_text(
             b"All 64 figures of these records, posted from zeros, are equal at all sites.\n",
             at,

@@ -1,6 +1,6 @@
 -- Laws of writing: one text after another is their concatenation; what room is left after a text; a text that fits stands at the beginning, one that does not is seen by its place.
 -- Rests on Writing. Assumes nothing.
-use Prim.Native.Nat.{ℕ, suc, min, ◌+◌, ◌-◌, ◌<◌, ◌≤◌}
+use Prim.Native.Nat.{ℕ, suc, min, ◌+◌, ◌<◌, ◌≤◌}
 use mathlib.Core.Path.{◌≡◌, refl, sym, ap, ◌∙◌}
 use mathlib.Core.Logic.{inl, inr}
 use mathlib.Core.Bool.{cond}
@@ -10,10 +10,9 @@ use native.Mathlib.Omega.{arith}
 use lib.Dec.{ltb, leb}
 use lib.ListN.{length, take, drop, set, length-set, length-append}
 use lib.Seq.{sets, sets-eq, take-append_seam}
-use borrow.Author.Tests.{lt-ltb, ltb-true, ltb-false, leb-true, leb-false, le-leb, lt-leb}
+use borrow.Author.Tests.{lt-ltb, ltb-true, ltb-false, le-leb, lt-leb}
 use Rattle.sets.proofs.Truth.{test}
-use Rattle.printer.specs.declared.Printed.{Printed}
-use Rattle.printer.specs.declared.Printed.TheVariants.{Written, Short}
+use Rattle.std.specs.Prelude.{Option, Some, None}
 use Rattle.printer.specs.Writing.{slice_printed, written_of, answer_printed}
 use Rattle.printer.specs.Puts.{last_place, next, after, putting, Put}
 
@@ -62,7 +61,7 @@ after_within (x ∷ a) at = elim (test (ltb at last_place)) [
   | inr f ↦ rw f (omega (arith, after_within a at))
 ]
 
-after_is : (a : List ℕ) (at : ℕ) → at ≤ last_place → after at a ≡ min (at + length a) last_place
+pub after_is : (a : List ℕ) (at : ℕ) → at ≤ last_place → after at a ≡ min (at + length a) last_place
 unfolding after
 after_is [] at h = omega arith
 after_is (x ∷ a) at h = elim (test (ltb at last_place)) [
@@ -83,30 +82,19 @@ putting_sets (x ∷ a) s at h =
 pub put_room : {a : List ℕ} {at p : ℕ} {s t : List ℕ} (more : ℕ) → Put a at s t p → at + (length a + more) ≤ length s → p + more ≤ length t
 put_room {a} {at} {p} {s} {t} more x h = omega (arith, x.moved, after_within a at, put_length x)
 
--- the test of room that adds nothing to the place
-pub room_test : (count at all : ℕ) → count ≤ all → leb at (all - count) ≡ leb (at + count) all
-room_test count at all h = elim (test (leb at (all - count))) [
-  | inl t ↦
-      let l : at + count ≤ all = omega (arith, leb-true at (all - count) t) in
-      t ∙ sym (le-leb (at + count) all l)
-  | inr f ↦
-      let l : all < at + count = omega (arith, leb-false at (all - count) f) in
-      f ∙ sym (lt-leb (at + count) all l)
-]
-
 -- ---- a text that fits, and one that does not
 
 -- nothing is put into no bytes
-none_held : (a : List ℕ) (at : ℕ) → putting [] at a ≡ []
+pub none_held : (a : List ℕ) (at : ℕ) → putting [] at a ≡ []
 unfolding putting
 none_held [] at = refl
 none_held (x ∷ a) at = none_held a (next at)
 
 -- what a contract says of a text printed into a slice: the answer, the slice after it, and the answer's number and values
-abbrev pub Prints : List ℕ → List ℕ → Printed → List ℕ → Type 0
+abbrev pub Prints : List ℕ → List ℕ → Option ℕ → List ℕ → Type 0
 Prints text s x t = (x ≡ answer_printed text s) × ((t ≡ slice_printed text s) × (written_of x ≡ written_of (answer_printed text s)))
 
-pub fits_written : (text s : List ℕ) → length text ≤ length s → (answer_printed text s ≡ Written (length text)) × (slice_printed text s ≡ text ++ drop (length text) s)
+pub fits_written : (text s : List ℕ) → length text ≤ length s → (answer_printed text s ≡ Some (length text)) × (slice_printed text s ≡ text ++ drop (length text) s)
 unfolding answer_printed slice_printed
 fits_written text s l = rw (le-leb (length text) (length s) l) (refl, refl)
 
@@ -123,10 +111,10 @@ module _ (text s u : List ℕ) (end : ℕ) (room : length s < last_place) (l : l
   pub text_read : take end u ≡ text
   text_read = rw (all_written, stands) (take-append_seam text (drop (length text) s))
 
-  pub at_once : Prints text s (Written end) u
+  pub at_once : Prints text s (Some end) u
   unfolding answer_printed slice_printed
   at_once =
-      rw (le-leb (length text) (length s) l) (ap Written all_written, (stands, ap (λ (k : ℕ). written_of (Written k)) all_written))
+      rw (le-leb (length text) (length s) l) (ap Some all_written, (stands, ap (λ (k : ℕ). written_of (Some k)) all_written))
 
 -- the text was counted on no bytes of the slice, which are t after that
 module _ (text s t : List ℕ) (needed : ℕ) (counted : Put text 0 [] t needed) where
@@ -136,25 +124,25 @@ module _ (text s t : List ℕ) (needed : ℕ) (counted : Put text 0 [] t needed)
   place_is : needed ≡ min (0 + length text) last_place
   place_is = counted.moved ∙ after_is text 0 (omega arith)
 
-  pub too_short : length (t ++ s) < needed → Prints text s Short (t ++ s)
+  pub too_short : length (t ++ s) < needed → Prints text s None (t ++ s)
   unfolding answer_printed slice_printed
   too_short h = rw (lt-leb (length text) (length s) (omega (arith, place_is, ap length stays))) (refl, (stays, refl))
 
-  pub written : (u : List ℕ) (end : ℕ) → length s < last_place → needed ≤ length (t ++ s) → Put text 0 (t ++ s) u end → Prints text s (Written end) u
+  pub written : (u : List ℕ) (end : ℕ) → length s < last_place → needed ≤ length (t ++ s) → Put text 0 (t ++ s) u end → Prints text s (Some end) u
   written u end room h x =
       let l : length text ≤ length s = omega (arith, place_is, ap length stays) in
       at_once text s u end room l (rw stays at x)
 
 -- ---- what was written is part of the slice
 
-abbrev count_in : Printed → ℕ
-count_in (Written count) = count
-count_in Short = 0
+abbrev count_in : Option ℕ → ℕ
+count_in (Some count) = count
+count_in None = 0
 
-pub written_within : (text s t : List ℕ) (count : ℕ) (x : Printed) → x ≡ Written count → x ≡ answer_printed text s → t ≡ slice_printed text s → count ≤ length t
+pub written_within : (text s t : List ℕ) (count : ℕ) (x : Option ℕ) → x ≡ Some count → x ≡ answer_printed text s → t ≡ slice_printed text s → count ≤ length t
 unfolding answer_printed slice_printed
 written_within text s t count x w a e =
-    let same : count ≡ count_in (cond (leb (length text) (length s)) (Written (length text)) Short) = ap count_in (sym w ∙ a) in
+    let same : count ≡ count_in (cond (leb (length text) (length s)) (Some (length text)) None) = ap count_in (sym w ∙ a) in
     elim (test (leb (length text) (length s))) [
       | inl l ↦
           let n : count ≡ length text = rw l at same in

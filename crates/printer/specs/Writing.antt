@@ -1,8 +1,6 @@
 -- A text in a lent slice, whole or not at all: what the slice is then, and what is answered.
--- Rests on the declared Printed.
-use Rattle.std.specs.Prelude.{ℕ, ◌+◌, Bool, cond, List, [], ◌∷◌, ◌++◌, leb, length, drop}
-use Rattle.printer.specs.declared.Printed.{Printed}
-use Rattle.printer.specs.declared.Printed.TheVariants.{Written, Short}
+-- Rests on nothing of the repository.
+use Rattle.std.specs.Prelude.{ℕ, Bool, cond, List, [], ◌∷◌, ◌++◌, Option, Some, None, leb, length, drop}
 
 abbrev pub fits : List ℕ → List ℕ → Bool
 fits text slice = leb (length text) (length slice)
@@ -12,10 +10,10 @@ unfoldable pub slice_printed : List ℕ → List ℕ → List ℕ
 slice_printed text slice = cond (fits text slice) (text ++ drop (length text) slice) slice
 
 -- document 01's number of the refusal, 16 of a lent slice that is too short, 0 of what is accepted, and the values that come with it: the count of bytes
-abbrev pub written_of : Printed → ℕ × List ℕ
-written_of (Written count) = (0, count ∷ [])
-written_of Short = (16, [])
+abbrev pub written_of : Option ℕ → ℕ × List ℕ
+written_of (Some count) = (0, count ∷ [])
+written_of None = (16, [])
 
--- how many bytes were written, or that the slice is too short
-unfoldable pub answer_printed : List ℕ → List ℕ → Printed
-answer_printed text slice = cond (fits text slice) (Written (length text)) Short
+-- how many bytes were written; none if the slice is too short
+unfoldable pub answer_printed : List ℕ → List ℕ → Option ℕ
+answer_printed text slice = cond (fits text slice) (Some (length text)) None

@@ -18,10 +18,3 @@ pub struct Ended {
     pub log: Record,
     pub quiet: bool,
 }
-
-// What printing into a lent slice answers: how many bytes were written, or that the slice is shorter than the text and stays.
-#[derive(Drop)]
-pub enum Printed {
-    Written(usize),
-    Short,
-}

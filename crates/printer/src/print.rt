@@ -7,16 +7,15 @@ ghost use Rattle.printer.specs.Output.{last_digit, decimal, event_line, event_li
 ghost use Rattle.printer.specs.Writing.{slice_printed, written_of, answer_printed};
 ghost use Rattle.printer.specs.Puts.{Put, most_events, longest_lines, surely_fits};
 
-use crate::{Ended, Printed};
-use books::{Records, SITES};
+use crate::Ended;
+use books::Records;
 use masks::has_site;
 use posting::Record;
 use sets::{POSTINGS, wide};
 
-// The largest place.
-const LAST: usize = 18_446_744_073_709_551_615;
+pub const NEWLINE: u8 = b'\n';
 
-pub const NEWLINE: u8 = 10;
+const ZERO: usize = b'0' as usize;
 
 // Below so many events, an event's number has four digits at most.
 const MOST_EVENTS: usize = 10_000;
@@ -41,10 +40,7 @@ const LAST_LINES: usize = 1_032;
 fn has_room(count: usize, at: usize, all: usize) -> bool
     ensures { result ≡ leb (at + count) all }
 {
-    if all < count {
-        return false;
-    }
-    at <= all - count
+    count <= all && at <= all - count
 }
 
 // One byte, where the slice has room for it: the place is not tested. So it is with all functions whose names end with `in`.
@@ -79,12 +75,10 @@ pub fn put(byte: u8, at: usize, out: &mut [u8]) -> usize
     ensures { Put (byte ∷ []) at out.old out.new result }
 {
     if at < out.len() {
-        return put_in(byte, at, out);
+        put_in(byte, at, out)
+    } else {
+        at.saturating_add(1)
     }
-    if at < LAST {
-        return at + 1;
-    }
-    at
 }
 
 // Some bytes.
@@ -92,16 +86,17 @@ pub fn put_text(text: &[u8], at: usize, out: &mut [u8]) -> usize
     ensures { Put text.now at out.old out.new result }
 {
     let mut place = at;
-    for i in 0..text.len() {
-        place = put(text[i], place, out);
+    for &byte in text {
+        place = put(byte, place, out);
     }
     place
 }
 
-fn last_digit(x: usize) -> u8
+// The last digit of a number.
+pub fn last_digit(x: usize) -> u8
     ensures { result ≡ last_digit x }
 {
-    48 + (x % 10) as u8
+    b'0' + (x % 10) as u8
 }
 
 // A number in base ten, of any length.
@@ -122,7 +117,7 @@ fn put_two_in(x: usize, at: usize, out: &mut [u8]) -> usize
     ensures { Put (last_digit (x / 10) ∷ last_digit x ∷ []) at out.old out.new result }
 {
     let low = x % 100;
-    let both = 48 + low / 10 + 256 * (48 + low % 10);
+    let both = ZERO + low / 10 + 256 * (ZERO + low % 10);
     put_pair_in((both % 256) as u8, (both / 256) as u8, at, out)
 }
 
@@ -195,7 +190,7 @@ fn event_line_from_array(k: usize, refusal: u8, at: usize, out: &mut [u8]) -> us
 {
     let mut line = [0; LONGEST_LINE];
     let end = event_line_in(k, refusal, 0, &mut line);
-    put_text(&line[0..end], at, out)
+    put_text(&line[..end], at, out)
 }
 
 // The same, anywhere.
@@ -213,21 +208,17 @@ fn event_lines(refusals: &[u8], at: usize, out: &mut [u8]) -> usize
     ensures { Put (event_lines 0 refusals.now) at out.old out.new result }
 {
     let mut place = at;
-    for i in 0..refusals.len() {
-        place = event_line(i + 1, refusals[i], place, out);
+    for (i, &refusal) in refusals.iter().enumerate() {
+        place = event_line(i + 1, refusal, place, out);
     }
     place
 }
 
-// How many numbers a record has.
-fn count_of(delivered: Record) -> usize
-    ensures { result ≡ length (numbers_of delivered) }
+// The numbers that a record has.
+fn numbers_of(delivered: &Record) -> &[u8]
+    ensures { result.now ≡ numbers_of delivered.now }
 {
-    let count = delivered.count;
-    if POSTINGS < count {
-        return POSTINGS;
-    }
-    count
+    &delivered.numbers[..delivered.count.min(POSTINGS)]
 }
 
 // A space and a number.
@@ -242,11 +233,9 @@ fn put_item(x: usize, at: usize, out: &mut [u8]) -> usize
 fn put_items(delivered: Record, at: usize, out: &mut [u8]) -> usize
     ensures { Put (items (numbers_of delivered)) at out.old out.new result }
 {
-    let count = count_of(delivered);
     let mut place = at;
-    for i in 0..count {
-        let m = wide(delivered.numbers[i]);
-        place = put_item(m, place, out);
+    for &m in numbers_of(&delivered) {
+        place = put_item(wide(m), place, out);
     }
     place
 }
@@ -256,9 +245,10 @@ pub fn put_state(down: bool, at: usize, out: &mut [u8]) -> usize
     ensures { Put (cond down down_word up_word) at out.old out.new result }
 {
     if down {
-        return put_text(b" down", at, out);
+        put_text(b" down", at, out)
+    } else {
+        put_text(b" up", at, out)
     }
-    put_text(b" up", at, out)
 }
 
 // S: site, up or down, then its record's numbers.
@@ -276,13 +266,13 @@ fn site_line(p: u8, down: bool, delivered: Record, at: usize, out: &mut [u8]) ->
 fn record_of(records: Records, p: usize) -> Record
     ensures { numbers_of result ≡ numbers_of (record_no records p) }
 {
-    if SITES <= p {
-        return Record {
+    match records.sites.get(p) {
+        Some(&record) => record,
+        None => Record {
             count: 0,
             numbers: [0; POSTINGS],
-        };
+        },
     }
-    records.sites[p]
 }
 
 // The lines of the first n sites.
@@ -292,8 +282,7 @@ fn site_lines(n: u8, down: u8, records: Records, at: usize, out: &mut [u8]) -> u
     let mut place = at;
     for p in 0..n {
         let delivered = record_of(records, wide(p));
-        let is_down = has_site(down, p);
-        place = site_line(p, is_down, delivered, place, out);
+        place = site_line(p, has_site(down, p), delivered, place, out);
     }
     place
 }
@@ -312,19 +301,18 @@ fn quiet_line(quiet: bool, at: usize, out: &mut [u8]) -> usize
     ensures { Put (quiet_line quiet) at out.old out.new result }
 {
     if quiet {
-        return put_text(b"Q yes\n", at, out);
+        put_text(b"Q yes\n", at, out)
+    } else {
+        put_text(b"Q no\n", at, out)
     }
-    put_text(b"Q no\n", at, out)
 }
 
 // The lines of the board that a run ended on.
 fn board_lines(ended: Ended, at: usize, out: &mut [u8]) -> usize
     ensures { Put (board_lines ended) at out.old out.new result }
 {
-    let records = ended.records;
-    let log = ended.log;
-    let p = site_lines(ended.n, ended.down, records, at, out);
-    let q = log_line(log, p, out);
+    let p = site_lines(ended.n, ended.down, ended.records, at, out);
+    let q = log_line(ended.log, p, out);
     quiet_line(ended.quiet, q, out)
 }
 
@@ -350,55 +338,46 @@ fn longest_lines(events: usize) -> usize
     requires { events < most_events }
     ensures { result ≡ longest_lines events }
 {
-    let lines = EVENT_LINE * events;
-    if events <= SHORT_EVENTS {
-        return lines;
-    }
-    lines + (events - SHORT_EVENTS)
+    EVENT_LINE * events + events.saturating_sub(SHORT_EVENTS)
 }
 
 // A run of so many events and sites surely fits into so many bytes.
 fn surely_fits(events: usize, n: u8, room: usize) -> bool
     ensures { result ≡ surely_fits events n room }
 {
-    if MOST_EVENTS <= events {
-        return false;
-    }
-    let sites = SITE_LINE * wide(n);
-    let lines = longest_lines(events);
-    let longest = lines + sites + LAST_LINES;
-    longest <= room
+    events < MOST_EVENTS && longest_lines(events) + SITE_LINE * wide(n) + LAST_LINES <= room
 }
 
 // A finished run, printed: the refusal number of each event's answer, 0 if it was accepted, and what is shown of its last board.
-// Where the lines may not fit they are counted first, on no bytes of the slice.
-pub fn print_run(refusals: &[u8], ended: Ended, out: &mut [u8]) -> Printed
+// Where the lines may not fit they are counted first, on no bytes of the slice. The answer: how many bytes were written;
+// none where the slice is shorter than the text, and then it stays.
+pub fn print_run(refusals: &[u8], ended: Ended, out: &mut [u8]) -> Option<usize>
     ensures value { result ≡ answer_printed (printed_of refusals.now ended) out.old }
     ensures out_after { out.new ≡ slice_printed (printed_of refusals.now ended) out.old }
     ensures result_value { written_of result ≡ written_of (answer_printed (printed_of refusals.now ended) out.old) }
 {
     if surely_fits(refusals.len(), ended.n, out.len()) {
         let end = run_lines(refusals, ended, 0, out);
-        return Printed::Written(end);
+        return Some(end);
     }
-    let needed = run_lines(refusals, ended, 0, &mut out[0..0]);
+    let needed = run_lines(refusals, ended, 0, &mut out[..0]);
     if out.len() < needed {
-        return Printed::Short;
+        return None;
     }
     let end = run_lines(refusals, ended, 0, out);
-    Printed::Written(end)
+    Some(end)
 }
 
-// The line of a refusal, printed: 1 of a malformed file, 2 to 5 of a refused start.
-pub fn print_refused(refusal: u8, out: &mut [u8]) -> Printed
+// The line of a refusal, printed: 1 of a malformed file, 2 to 5 of a refused start. It answers as print_run does.
+pub fn print_refused(refusal: u8, out: &mut [u8]) -> Option<usize>
     ensures value { result ≡ answer_printed (refused_line refusal) out.old }
     ensures out_after { out.new ≡ slice_printed (refused_line refusal) out.old }
     ensures result_value { written_of result ≡ written_of (answer_printed (refused_line refusal) out.old) }
 {
-    let needed = refused_line(refusal, 0, &mut out[0..0]);
+    let needed = refused_line(refusal, 0, &mut out[..0]);
     if out.len() < needed {
-        return Printed::Short;
+        return None;
     }
     let end = refused_line(refusal, 0, out);
-    Printed::Written(end)
+    Some(end)
 }

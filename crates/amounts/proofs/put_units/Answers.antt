@@ -1,15 +1,10 @@
 -- `put_units` meets its contract.
 -- Assumes nothing.
-use Prim.Native.Nat.{ℕ}
-use mathlib.Core.Path.{ap}
-use mathlib.Core.List.{[], ◌∷◌}
-use Rattle.printer.proofs.Writing.{then_put, put_as}
+use Rattle.printer.proofs.Writing.{then_put}
 use Rattle.amounts.specs.Amounts.{units}
 use Rattle.amounts.proofs.put_units.Goals as goal
 
 pub returns : goal.returns
 unfolding units
 returns c =
-    then_put c.put_number-p.ensures
-    (then_put c.put-q.ensures
-    (then_put (put_as (ap (λ (d : ℕ). d ∷ []) c.digit-tens.ensures) c.put-r.ensures) (put_as (ap (λ (d : ℕ). d ∷ []) c.digit-ones.ensures) c.put.ensures)))
+    rw (← c.last_digit.ensures, ← c.last_digit-2.ensures) (then_put c.put_number-p.ensures (then_put c.put-q.ensures (then_put c.put-r.ensures c.put.ensures)))

@@ -1,10 +1,10 @@
 -- `gap` meets its contract.
 -- Assumes nothing.
-use Rattle.audit_table.proofs.Columns.{gap_short, gap_long}
+use native.Mathlib.Omega.{arith}
+use Rattle.std.proofs.lemmas.Bool.Decides.{nat_tests}
+use Rattle.audit_table.specs.Table.{gap}
 use Rattle.audit_table.proofs.gap.Goals as goal
 
-pub returns-then-n-width : goal.returns-then-n-width
-returns-then-n-width c = gap_short c.args.width c.args.n c.if-n-width.true
-
 pub returns : goal.returns
-returns c = gap_long c.args.width c.args.n c.if-n-width.false
+unfolding gap
+returns c = grind (arith, nat_tests)

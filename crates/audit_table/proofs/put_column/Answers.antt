@@ -14,4 +14,4 @@ returns c =
     let x = ap (figure_text c.args.row) (to_z-of_z c.ranges.x) in
     let counted = put_as x c.put_figure-n.ensures in
     let gap = after_counted counted c.args.out.now c.put_spaces-place.ensures in
-    then_put (put_as (ap spaces (c.gap-count.ensures ∙ counted_gap counted 16 (omega arith))) gap) (put_as x c.put_figure.ensures)
+    then_put (put_as (ap spaces (c.gap.ensures ∙ counted_gap counted 16 (omega arith))) gap) (put_as x c.put_figure.ensures)

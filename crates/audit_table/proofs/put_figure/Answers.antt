@@ -13,6 +13,6 @@ pub returns-then-row-eq1 : goal.returns-then-row-eq1
 unfolding figure_text
 returns-then-row-eq1 c = rw (eq-eqb (c.args.row % 4) 1 c.if-row-eq1.true) (put_as (ap signed (to_z-of_z c.ranges.x)) c.put_signed.ensures)
 
-pub returns : goal.returns
+pub returns-else-row-eq1 : goal.returns-else-row-eq1
 unfolding figure_text
-returns c = rw (ne_eqb (c.args.row % 4) 1 c.if-row-eq1.false) (put_as (ap cents (to_z-of_z c.ranges.x)) c.put_cents.ensures)
+returns-else-row-eq1 c = rw (ne_eqb (c.args.row % 4) 1 c.if-row-eq1.false) (put_as (ap cents (to_z-of_z c.ranges.x)) c.put_cents.ensures)

@@ -12,4 +12,4 @@ unfolding label
 returns c =
     let counted = c.row_name-n.ensures in
     let name = after_counted counted c.args.out.now c.row_name-place.ensures in
-    then_put name (put_as (ap spaces (c.gap-count.ensures ∙ counted_gap counted 20 (omega arith))) c.put_spaces.ensures)
+    then_put name (put_as (ap spaces (c.gap.ensures ∙ counted_gap counted 20 (omega arith))) c.put_spaces.ensures)

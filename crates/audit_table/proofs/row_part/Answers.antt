@@ -9,6 +9,6 @@ pub returns-then-row_differs : goal.returns-then-row_differs
 unfolding row_part
 returns-then-row_differs c = rw (sym c.row_differs.ensures ∙ c.if-row_differs.true) c.row_line.ensures
 
-pub returns : goal.returns
+pub returns-else-row_differs : goal.returns-else-row_differs
 unfolding row_part
-returns c = rw (sym c.row_differs.ensures ∙ c.if-row_differs.false) (nothing_put c.args.at c.args.out.now)
+returns-else-row_differs c = rw (sym c.row_differs.ensures ∙ c.if-row_differs.false) (nothing_put c.args.at c.args.out.now)
