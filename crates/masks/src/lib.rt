@@ -13,20 +13,14 @@ pub const SITES: u8 = 7;
 pub fn only_site(p: u8) -> u8
     ensures { result ≡ only_site p }
 {
-    if SITES <= p {
-        return 0;
-    }
-    1 << p
+    if p < SITES { 1 << p } else { 0 }
 }
 
 // The mask of the sites below n.
 pub fn every_site(n: u8) -> u8
     ensures { result ≡ every_site n }
 {
-    if SITES <= n {
-        return 127;
-    }
-    (1 << n) - 1
+    if n < SITES { (1 << n) - 1 } else { 127 }
 }
 
 // The mask with site p.
@@ -40,20 +34,14 @@ pub fn with_site(mask: u8, p: u8) -> u8
 pub fn with_site_if(mask: u8, p: u8, so: bool) -> u8
     ensures { result ≡ with_site_if mask p so }
 {
-    if so {
-        return with_site(mask, p);
-    }
-    mask
+    if so { with_site(mask, p) } else { mask }
 }
 
 // Whether site p is in the mask.
 pub fn has_site(mask: u8, p: u8) -> bool
     ensures { result ≡ has_bit mask p }
 {
-    if 8 <= p {
-        return false;
-    }
-    (mask >> p) % 2 == 1
+    p < 8 && (mask >> p) % 2 == 1
 }
 
 // To whom site p relays DELIVER: to all n but itself, or to none if it is the owner.
@@ -61,30 +49,28 @@ pub fn relay_to(n: u8, p: u8, owner: u8) -> u8
     ensures { result ≡ relay_to n p owner }
 {
     if p == owner {
-        return 0;
+        0
+    } else {
+        every_site(n) & !only_site(p)
     }
-    let every = every_site(n);
-    let own = only_site(p);
-    every & !own
 }
 
 // The sites of a mask found so far, and site p if the mask has it, up to j of them.
 fn next_site(low: u8, mask: u8, p: u8, j: usize) -> u8
     ensures { result ≡ next_site low mask p j }
 {
-    let count = u8::count_ones(low) as usize;
-    if j <= count {
-        return low;
+    if j <= low.count_ones() as usize {
+        low
+    } else {
+        with_site_if(low, p, has_site(mask, p))
     }
-    let has = has_site(mask, p);
-    with_site_if(low, p, has)
 }
 
 // The first j sites of a mask, in rising number: those that a step cut after j sends reaches.
 pub fn first_sites(mask: u8, j: usize) -> u8
     ensures { result ≡ first_sites room mask j }
 {
-    let mut low: u8 = 0;
+    let mut low = 0;
     for p in 0..SITES {
         low = next_site(low, mask, p, j);
     }
@@ -95,8 +81,5 @@ pub fn first_sites(mask: u8, j: usize) -> u8
 pub fn sites_below(n: u8, mask: u8) -> bool
     ensures { result ≡ ltb mask (2 ^ n) }
 {
-    if 8 <= n {
-        return true;
-    }
-    mask < (1 << n)
+    8 <= n || mask < (1 << n)
 }

@@ -4,4 +4,3 @@ pub mod KindLaws
 pub mod ConflictLaws
 pub mod RecordLaws
 pub mod Pairs
-pub mod Search

@@ -3,14 +3,14 @@
 #![tactic(auto)]
 
 ghost use Rattle.std.specs.Prelude.{◌≡◌, not, ◌&&◌, ◌<◌, ◌/◌, ◌%◌};
-ghost use Rattle.posting.specs.Kinds.{in_row, net_of_all, accounts_ok, fields_ok, matrix_entry, symmetric, pair_ok, has_fixed_pairs};
+ghost use Rattle.posting.specs.Kinds.{in_row, net_of_all, accounts_ok, fields_ok, matrix_entry, turned_alike, symmetric, pair_ok, has_fixed_pairs};
 ghost use Rattle.posting.specs.Conflicts.{row, offered_by, touches, shares, conflicting, conflict_set};
 ghost use Rattle.posting.specs.Touched.{touches_some};
 ghost use Rattle.posting.specs.Records.{empty_record, contains, append};
 
 use sets::{POSTINGS, Set};
 
-// The kinds.
+// The kinds: numbers, since a posting may hold any byte as its kind, and definitions and tests give it one that is no kind.
 pub const TRADE: u8 = 0;
 
 pub const RATE: u8 = 1;
@@ -35,15 +35,15 @@ pub const TRADE_LIMIT: u32 = 1_000_000_000;
 pub const RATE_LIMIT: u32 = 10_000;
 
 // The pairs of kinds that don't commute on a shared account, both ways round: row i, column j.
-pub const FIXED_PAIRS: [[u8; 4]; 4] = [
-    [0, 0, 1, 1], // 0-2, 0-3
-    [0, 1, 1, 0], // 1-1, 1-2
-    [1, 1, 0, 1], // 2-0, 2-1, 2-3
-    [1, 0, 1, 0], // 3-0, 3-2
+pub const FIXED_PAIRS: [[bool; 4]; 4] = [
+    [false, false, true, true], // 0-2, 0-3
+    [false, true, true, false], // 1-1, 1-2
+    [true, true, false, true], // 2-0, 2-1, 2-3
+    [true, false, true, false], // 3-0, 3-2
 ];
 
 // A row of the table: the site that offered it, then the fields of document 01's table of kinds.
-#[derive(Clone, Copy)]
+#[derive(Clone, Copy, Default, PartialEq, Eq)]
 pub struct Posting {
     pub owner: u8,
     pub kind: u8,
@@ -53,14 +53,14 @@ pub struct Posting {
 }
 
 // The postings offered, by number; rows from the count on hold nothing.
-#[derive(Clone, Copy)]
+#[derive(Clone, Copy, PartialEq, Eq)]
 pub struct Table {
     pub count: usize,
     pub rows: [Posting; POSTINGS],
 }
 
 // Posting numbers in order; places from the count on hold nothing.
-#[derive(Clone, Copy)]
+#[derive(Clone, Copy, PartialEq, Eq)]
 pub struct Record {
     pub count: usize,
     pub numbers: [u8; POSTINGS],
@@ -70,54 +70,26 @@ pub struct Record {
 fn in_row(kind: u8, a: u8, b: u8, amount: u32) -> bool
     ensures { result ≡ in_row kind a b amount }
 {
-    if kind == TRADE {
-        if a == b {
-            return false;
-        }
-        if amount < 1 {
-            return false;
-        }
-        return amount <= TRADE_LIMIT;
+    match kind {
+        TRADE => a != b && (1..=TRADE_LIMIT).contains(&amount),
+        RATE => a == b && amount <= RATE_LIMIT,
+        CALL | NET => a == b && amount == 0,
+        _ => false,
     }
-    if b != a {
-        return false;
-    }
-    if kind == RATE {
-        return amount <= RATE_LIMIT;
-    }
-    if kind == CALL {
-        return amount == 0;
-    }
-    if kind == NET {
-        return amount == 0;
-    }
-    false
 }
 
 // Whether it is a NET of every account.
 pub fn net_of_all(kind: u8, a: u8, b: u8) -> bool
     ensures { result ≡ net_of_all kind a b }
 {
-    if a != EVERY_ACCOUNT {
-        return false;
-    }
-    if b != EVERY_ACCOUNT {
-        return false;
-    }
-    kind == NET
+    a == EVERY_ACCOUNT && b == EVERY_ACCOUNT && kind == NET
 }
 
 // Whether both are accounts, or those of a NET of every account.
 fn accounts_ok(kind: u8, a: u8, b: u8) -> bool
     ensures { result ≡ accounts_ok kind a b }
 {
-    if net_of_all(kind, a, b) {
-        return true;
-    }
-    if ACCOUNTS <= a {
-        return false;
-    }
-    b < ACCOUNTS
+    net_of_all(kind, a, b) || (a < ACCOUNTS && b < ACCOUNTS)
 }
 
 impl Posting {
@@ -125,53 +97,33 @@ impl Posting {
     pub fn fields_ok(self) -> bool
         ensures { result ≡ fields_ok self }
     {
-        if accounts_ok(self.kind, self.a, self.b) {
-            return in_row(self.kind, self.a, self.b, self.amount);
-        }
-        false
+        accounts_ok(self.kind, self.a, self.b) && in_row(self.kind, self.a, self.b, self.amount)
     }
 
     // Whether the posting touches an account; what is no account is touched by none.
     pub fn touches(self, account: u8) -> bool
         ensures { result ≡ touches self account }
     {
-        if ACCOUNTS <= account {
-            return false;
-        }
-        if account == self.a {
-            return true;
-        }
-        if account == self.b {
-            return true;
-        }
-        net_of_all(self.kind, self.a, self.b)
+        account < ACCOUNTS
+            && (account == self.a || account == self.b || net_of_all(self.kind, self.a, self.b))
     }
 
     // Whether the posting touches some account.
     fn touches_some(self) -> bool
         ensures { result ≡ touches_some self }
     {
-        if net_of_all(self.kind, self.a, self.b) {
-            return true;
-        }
-        if self.a < ACCOUNTS {
-            return true;
-        }
-        self.b < ACCOUNTS
+        net_of_all(self.kind, self.a, self.b) || self.a < ACCOUNTS || self.b < ACCOUNTS
     }
 
     // Whether some account is touched by both.
     pub fn shares(self, other: Posting) -> bool
         ensures { result ≡ shares self other }
     {
-        let all = net_of_all(self.kind, self.a, self.b);
-        if all {
-            return other.touches_some();
+        if net_of_all(self.kind, self.a, self.b) {
+            other.touches_some()
+        } else {
+            other.touches(self.a) || other.touches(self.b)
         }
-        if other.touches(self.a) {
-            return true;
-        }
-        other.touches(self.b)
     }
 }
 
@@ -179,89 +131,58 @@ impl Posting {
 pub fn matrix_entry(matrix: u16, i: u8, j: u8) -> bool
     ensures { result ≡ matrix_entry matrix i j }
 {
-    if KINDS <= i {
-        return false;
-    }
-    if KINDS <= j {
-        return false;
-    }
-    (matrix >> (4 * i + j)) % 2 == 1
+    i < KINDS && j < KINDS && (matrix >> (4 * i + j)) % 2 == 1
 }
 
-// Whether row i, column j is as row j, column i, for all kinds.
+// Whether row i, column j is as row j, column i.
+fn turned_alike(matrix: u16, i: u8, j: u8) -> bool
+    ensures { result ≡ turned_alike matrix i j }
+{
+    matrix_entry(matrix, i, j) == matrix_entry(matrix, j, i)
+}
+
+// Whether all pairs of kinds are so.
 pub fn symmetric(matrix: u16) -> bool
     ensures { result ≡ symmetric matrix }
 {
-    for n in 0..PAIRS {
-        let i = n / KINDS;
-        let j = n % KINDS;
-        let entry = matrix_entry(matrix, i, j);
-        let turned = matrix_entry(matrix, j, i);
-        if entry != turned {
-            return false;
-        }
-    }
-    true
+    (0..PAIRS).all(|n| turned_alike(matrix, n / KINDS, n % KINDS))
 }
 
-// Whether pair n of kinds is a fixed one for which the matrix says no.
-fn lacks_pair(matrix: u16, n: u8) -> bool
-    requires { n < 16 }
-    ensures { result ≡ not (pair_ok matrix (n / 4) (n % 4)) }
+// Whether the matrix says yes for kinds i and j, if they are a fixed pair.
+fn pair_ok(matrix: u16, i: u8, j: u8) -> bool
+    requires i_kind { i < 4 }
+    requires j_kind { j < 4 }
+    ensures { result ≡ pair_ok matrix i j }
 {
-    let i = n / KINDS;
-    let j = n % KINDS;
-    if FIXED_PAIRS[i as usize][j as usize] == 1 {
-        let entry = matrix_entry(matrix, i, j);
-        return entry == false;
-    }
-    false
+    !FIXED_PAIRS[usize::from(i)][usize::from(j)] || matrix_entry(matrix, i, j)
 }
 
 // Whether the matrix says yes for every fixed pair.
 pub fn has_fixed_pairs(matrix: u16) -> bool
     ensures { result ≡ has_fixed_pairs matrix }
 {
-    for n in 0..PAIRS {
-        if lacks_pair(matrix, n) {
-            return false;
-        }
-    }
-    true
+    (0..PAIRS).all(|n| pair_ok(matrix, n / KINDS, n % KINDS))
 }
 
 // Whether postings p and q, with numbers m and x, conflict.
 pub fn conflicting(matrix: u16, m: usize, p: Posting, x: usize, q: Posting) -> bool
     ensures { result ≡ conflicting matrix m p x q }
 {
-    let differ = m != x;
-    if p.shares(q) {
-        if matrix_entry(matrix, p.kind, q.kind) {
-            return differ;
-        }
-        return false;
-    }
-    false
+    p.shares(q) && matrix_entry(matrix, p.kind, q.kind) && m != x
 }
 
 // Whether number m is below the count of postings offered, and the capacity.
 pub fn offered_by(count: usize, m: usize) -> bool
     ensures { result ≡ offered_by count m }
 {
-    if count <= m {
-        return false;
-    }
-    m < POSTINGS
+    m < count && m < POSTINGS
 }
 
 // Whether posting q with number x is offered and conflicts with posting p with number m.
 fn offered_conflict(count: usize, matrix: u16, m: usize, p: Posting, x: usize, q: Posting) -> bool
     ensures { result ≡ offered_by count x && conflicting matrix m p x q }
 {
-    if offered_by(count, x) {
-        return conflicting(matrix, m, p, x, q);
-    }
-    false
+    offered_by(count, x) && conflicting(matrix, m, p, x, q)
 }
 
 impl Table {
@@ -269,29 +190,17 @@ impl Table {
     pub fn row(self, m: usize) -> Posting
         ensures { result ≡ row self m }
     {
-        if POSTINGS <= m {
-            return Posting {
-                owner: 0,
-                kind: 0,
-                a: 0,
-                b: 0,
-                amount: 0,
-            };
-        }
-        self.rows[m]
+        self.rows.get(m).copied().unwrap_or_default()
     }
 
     // C(m): m with all offered postings that conflict with it.
     pub fn conflict_set(self, matrix: u16, m: usize) -> Set
         ensures { result ≡ conflict_set matrix self m }
     {
-        let count = self.count;
         let p = self.row(m);
         let mut s = Set::empty();
-        for x in 0..POSTINGS {
-            let q = self.rows[x];
-            let so = offered_conflict(count, matrix, m, p, x, q);
-            s = s.with_if(x, so);
+        for (x, q) in self.rows.iter().enumerate() {
+            s = s.with_if(x, offered_conflict(self.count, matrix, m, p, x, *q));
         }
         s.with(m)
     }
@@ -311,32 +220,20 @@ impl Record {
     pub fn contains(self, m: usize) -> bool
         ensures { result ≡ contains self m }
     {
-        let count = self.count;
-        for i in 0..POSTINGS {
-            if count <= i {
-                return false;
-            }
-            let number = self.numbers[i] as usize;
-            if m == number {
-                return true;
-            }
-        }
-        false
+        self.numbers
+            .iter()
+            .take(self.count)
+            .any(|number| m == usize::from(*number))
     }
 
     // The record with m at its end; a full record, or a number past the capacity, leaves it as it is.
     pub fn append(mut self, m: usize) -> Record
         ensures { result ≡ append self m }
     {
-        let count = self.count;
-        if POSTINGS <= count {
-            return self;
+        if self.count < POSTINGS && m < POSTINGS {
+            self.numbers[self.count] = m as u8;
+            self.count += 1;
         }
-        if POSTINGS <= m {
-            return self;
-        }
-        self.numbers[count] = m as u8;
-        self.count = count + 1;
         self
     }
 }

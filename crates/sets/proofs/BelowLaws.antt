@@ -8,6 +8,7 @@ use native.Mathlib.Omega.{arith}
 use native.Mathlib.Numerals.{add-one}
 use native.Mathlib.Decide.{ℕ_discrete}
 use Rattle.sets.proofs.Truth.{test, never, and_left, and_right, and_intro, or_cases, or_left, or_right}
+use Rattle.std.specs.List.{list_all, range_with_len}
 use Rattle.sets.specs.Below.{all_below, any_below, one, count}
 
 -- ---- all
@@ -51,6 +52,17 @@ all_more p n t h = rw add-one (and_intro (all_below p n) (p n) t h)
 
 pub all_end : (p : ℕ → Bool) (n i : ℕ) → i ≡ n → all_below p i ≡ true → all_below p n ≡ true
 all_end p n i e t = ap (all_below p) (sym e) ∙ t
+
+-- as `all` over a range tests them
+all_range_from : (p : ℕ → Bool) (n a : ℕ) → list_all p (range_with_len a n) ≡ all_below (λ i. p (a + i)) n
+unfolding all_below
+all_range_from p zero a = refl
+all_range_from p (suc n) a =
+    let next : all_below (λ i. p (a + 1 + i)) n ≡ all_below (λ i. p (a + suc i)) n = all_ext (λ i. p (a + 1 + i)) (λ i. p (a + suc i)) n (λ i l. ap p (omega arith)) in
+    ap₂ (λ (b c : Bool). b && c) (ap p (omega arith)) (all_range_from p n (a + 1) ∙ next) ∙ sym (all_shift (λ i. p (a + i)) n)
+
+pub all_range : (p : ℕ → Bool) (n : ℕ) → list_all p (range_with_len 0 n) ≡ all_below p n
+all_range p n = all_range_from p n 0 ∙ all_ext (λ i. p (0 + i)) p n (λ i l. ap p (omega arith))
 
 -- ---- any
 

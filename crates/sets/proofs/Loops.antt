@@ -1,20 +1,20 @@
 -- What the loops over the words have done after i words. wordwise_step, wordwise_end: the first i words are combined, the rest as they were.
--- insert_none, insert_step, insert_end: m is in if its word is among the first i. subset_step, empty_step: what is left to test. Rests on Words.
+-- insert_none, insert_step, insert_end: m is in if its word is among the first i. Rests on Words.
 -- Assumes nothing.
 use Prim.Native.Nat.{ℕ, suc, ◌+◌, ◌/◌, ◌%◌, ◌^◌, ◌<◌}
 use mathlib.Core.Path.{◌≡◌, refl, sym, ap, ap₂, ◌∙◌}
 use mathlib.Core.Logic.{◌≢◌}
-use mathlib.Core.Bool.{true, cond, ◌&&◌}
+use mathlib.Core.Bool.{cond}
 use mathlib.Core.List.{List, ◌∷◌, ◌++◌, append_assoc, append-nil}
 use native.Mathlib.Omega.{arith}
 use native.Mathlib.Decide.{dec_lt, ℕ_discrete}
 use native.Mathlib.Numerals.{add-one}
 use lib.Dec.{eqb, ltb}
 use lib.ListN.{length, set, take, drop}
-use lib.Bits.{bit_or, bit_and}
+use lib.Bits.{bit_or}
 use lib.Seq.{drop-cons, take-suc, set_at, get_or_at, length-take-le, take_all, drop-length, set-get_or}
 use borrow.Author.Tests.{eq-eqb, ne_eqb, lt-ltb, le-ltb}
-use Rattle.sets.specs.Words.{word, insert, wordwise, is_subset, is_empty}
+use Rattle.sets.specs.Words.{word, insert, wordwise}
 use Rattle.sets.proofs.WordLaws.{insert_past, word_wordwise, length_wordwise}
 
 -- the first i words combined
@@ -68,21 +68,3 @@ module _ (ws : List ℕ) (m : ℕ) where
     | yes b ↦ rw (lt-ltb (m / 64) i b) refl
     | no b ↦ rw (le-ltb (m / 64) i (omega arith)) (sym (insert_past ws m (omega arith)))
   ]
-
-module _ (ws vs : List ℕ) (same : length vs ≡ length ws) where
-  pub subset_step : (i : ℕ) → i < length ws → is_subset (drop i ws) (drop i vs) ≡ (eqb (bit_and (word ws i) (word vs i)) (word ws i) && is_subset (drop (i + 1) ws) (drop (i + 1) vs))
-  unfolding is_subset
-  subset_step i h = rw (add-one, drop-cons ws i 0 h, drop-cons vs i 0 (omega arith))
-
-  pub subset_end : (i : ℕ) → i ≡ length ws → is_subset (drop i ws) (drop i vs) ≡ true
-  unfolding is_subset
-  subset_end i e = rw (e, drop-length ws)
-
-module _ (ws : List ℕ) where
-  pub empty_step : (i : ℕ) → i < length ws → is_empty (drop i ws) ≡ (eqb (word ws i) 0 && is_empty (drop (i + 1) ws))
-  unfolding is_empty
-  empty_step i h = rw (add-one, drop-cons ws i 0 h)
-
-  pub empty_end : (i : ℕ) → i ≡ length ws → is_empty (drop i ws) ≡ true
-  unfolding is_empty
-  empty_end i e = rw (e, drop-length ws)

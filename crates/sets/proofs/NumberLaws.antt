@@ -8,6 +8,7 @@ use mathlib.Core.List.{List, [], ◌∷◌, ◌++◌}
 use native.Mathlib.Omega.{arith}
 use lib.Dec.{eqb, ltb}
 use borrow.Author.Tests.{eq-eqb, ne_eqb, eqb-true, ltb-true, lt-ltb}
+use Rattle.std.specs.List.{list_any}
 use Rattle.sets.proofs.Truth.{never, not_so, and_left, and_right, or_cases, or_left, or_right, or_neither, not_flips}
 use Rattle.sets.specs.Numbers.{listed, distinct, above, rising}
 
@@ -19,6 +20,12 @@ listed_append x (y ∷ l) r = ap (λ (b : Bool). eqb x y || b) (listed_append x 
 pub listed_last : (x : ℕ) (l : List ℕ) (y : ℕ) → listed x (l ++ y ∷ []) ≡ (listed x l || eqb x y)
 unfolding listed
 listed_last x l y = listed_append x l (y ∷ []) ∙ ap (λ (b : Bool). listed x l || b) (or-false (eqb x y))
+
+-- as `any` over a list tests it
+pub any_listed : (x : ℕ) (l : List ℕ) → list_any (eqb x) l ≡ listed x l
+unfolding listed
+any_listed x [] = refl
+any_listed x (y ∷ l) = ap (λ (b : Bool). eqb x y || b) (any_listed x l)
 
 -- a new number at the end
 pub distinct_last : (l : List ℕ) (y : ℕ) → distinct l ≡ true → listed y l ≡ false → distinct (l ++ y ∷ []) ≡ true

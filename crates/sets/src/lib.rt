@@ -12,21 +12,21 @@ pub const WORDS: usize = 4;
 // How many postings a board holds: a set has a bit for each.
 pub const POSTINGS: usize = 256;
 
-// A byte as a wider number: a cast by itself would ask each caller that the byte fits.
+// A byte as a wider number.
 pub fn wide(x: u8) -> usize
     ensures { result ≡ x }
 {
-    x as usize
+    usize::from(x)
 }
 
 pub fn wide32(x: u8) -> u32
     ensures { result ≡ x }
 {
-    x as u32
+    u32::from(x)
 }
 
 // A set of posting numbers: number m is bit m % 64 of word m / 64.
-#[derive(Clone, Copy)]
+#[derive(Clone, Copy, PartialEq, Eq)]
 pub struct Set {
     pub words: [u64; WORDS],
 }
@@ -35,10 +35,7 @@ pub struct Set {
 fn word_with(w: u64, i: usize, m: usize) -> u64
     ensures { result ≡ cond (eqb i (m / 64)) (bit_or w (2 ^ (m % 64))) w }
 {
-    if i == m / 64 {
-        return w | (1 << (m % 64));
-    }
-    w
+    if i == m / 64 { w | (1 << (m % 64)) } else { w }
 }
 
 impl Set {
@@ -52,22 +49,15 @@ impl Set {
     pub fn has(self, m: usize) -> bool
         ensures { result ≡ has self m }
     {
-        if POSTINGS <= m {
-            return false;
-        }
-        let i = m / 64;
-        let w = self.words[i];
-        (w >> (m % 64)) % 2 == 1
+        m < POSTINGS && (self.words[m / 64] >> (m % 64)) % 2 == 1
     }
 
     // The set with m; with a number past the capacity, the set as it is. Every word is passed over, so that a set in registers stays there.
     pub fn with(mut self, m: usize) -> Set
         ensures { result ≡ with self m }
     {
-        for i in 0..WORDS {
-            let w = self.words[i];
-            let v = word_with(w, i, m);
-            self.words[i] = v;
+        for (i, w) in self.words.iter_mut().enumerate() {
+            *w = word_with(*w, i, m);
         }
         self
     }
@@ -76,20 +66,15 @@ impl Set {
     pub fn with_if(self, m: usize, so: bool) -> Set
         ensures { result ≡ with_if self m so }
     {
-        if so {
-            return self.with(m);
-        }
-        self
+        if so { self.with(m) } else { self }
     }
 
     // What is in either.
     pub fn join(mut self, t: Set) -> Set
         ensures { result ≡ join self t }
     {
-        for i in 0..WORDS {
-            let w = self.words[i];
-            let v = t.words[i];
-            self.words[i] = w | v;
+        for (i, w) in self.words.iter_mut().enumerate() {
+            *w |= t.words[i];
         }
         self
     }
@@ -98,10 +83,8 @@ impl Set {
     pub fn meet(mut self, t: Set) -> Set
         ensures { result ≡ meet self t }
     {
-        for i in 0..WORDS {
-            let w = self.words[i];
-            let v = t.words[i];
-            self.words[i] = w & v;
+        for (i, w) in self.words.iter_mut().enumerate() {
+            *w &= t.words[i];
         }
         self
     }
@@ -110,24 +93,12 @@ impl Set {
     pub fn subset(self, t: Set) -> bool
         ensures { result ≡ subset self t }
     {
-        for i in 0..WORDS {
-            let w = self.words[i];
-            let v = t.words[i];
-            if w & v != w {
-                return false;
-            }
-        }
-        true
+        self.words.iter().zip(&t.words).all(|(w, v)| w & v == *w)
     }
 
     pub fn is_empty(self) -> bool
         ensures { result ≡ is_empty_set self }
     {
-        for i in 0..WORDS {
-            if self.words[i] != 0 {
-                return false;
-            }
-        }
-        true
+        self.words.iter().all(|w| *w == 0)
     }
 }

@@ -1,38 +1,17 @@
--- `has_fixed_pairs` meets its contract. The loop's invariant: the matrix says yes for the fixed ones of the first n pairs.
+-- `has_fixed_pairs` meets its contract.
 -- Assumes nothing.
-use Prim.Native.Nat.{◌/◌, ◌%◌}
-use mathlib.Core.Path.{sym, ◌∙◌}
-use native.Mathlib.Omega.{arith}
-use borrow.Author.Rules.{rules}
-use borrow.Author.Tests.{not-true, not-false}
+use Rattle.std.proofs.Common.{rules, tests}
+use mathlib.Core.Path.{refl, sym, ◌∙◌}
+use Prim.Native.Nat.{ℕ, ◌/◌, ◌%◌}
+use Rattle.std.proofs.lemmas.Iterator.{YieldsList-from_range}
+use Rattle.std.proofs.lemmas.Iterator.Search.{all_from_yields_List}
+use Rattle.sets.proofs.BelowLaws.{all_range}
 use Rattle.posting.specs.Kinds.{pair_ok, has_fixed_pairs}
-use Rattle.posting.proofs.Pairs.{none_passed, pair_passes, pair_fails, all_passed}
+use Rattle.posting.proofs.KindLaws.{pairs_entries}
 use Rattle.posting.proofs.has_fixed_pairs.Goals as goal
-
-pub loop-n-init : goal.loop-n-init
-loop-n-init c = (search rules, none_passed (pair_ok c.args.matrix))
-
-pub returns-then-lacks_pair : goal.returns-then-lacks_pair
-unfolding has_fixed_pairs
-returns-then-lacks_pair c =
-    let at = c.loop-n in
-    let matrix = c.args.matrix in
-    sym
-    (pair_fails (pair_ok matrix) at.n (search rules)
-    (not-true (pair_ok matrix (at.n / 4) (at.n % 4)) (sym c.lacks_pair.ensures ∙ c.if-lacks_pair.true)))
-
-pub loop-n-preserved : goal.loop-n-preserved
-loop-n-preserved c =
-    let at = c.loop-n in
-    let matrix = c.args.matrix in (
-      search rules,
-      pair_passes (pair_ok matrix) at.n at.invariant.1
-          (not-false (pair_ok matrix (at.n / 4) (at.n % 4)) (sym c.lacks_pair.ensures ∙ c.if-lacks_pair.false)),
-    )
 
 pub returns : goal.returns
 unfolding has_fixed_pairs
 returns c =
-    let at = c.loop-n in
-    let matrix = c.args.matrix in
-    sym (all_passed (pair_ok matrix) at.n (omega arith) at.invariant.1)
+    let test = λ (n : ℕ). pair_ok c.args.matrix (n / 4) (n % 4) in
+    all_from_yields_List test c.all.new.self _ _ c.all.ensures.ran (YieldsList-from_range 0 16 16 (cc) refl) (λ x b q k. search (rules, tests)) ∙ all_range test 16 ∙ sym (pairs_entries (pair_ok c.args.matrix))

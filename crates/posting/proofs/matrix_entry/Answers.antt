@@ -1,23 +1,14 @@
--- `matrix_entry` meets its contract.
+-- `matrix_entry` meets its contract: what is no kind has no entry, any other is a bit of the matrix.
 -- Assumes nothing.
-use native.Mathlib.Omega.{arith}
-use borrow.Author.Tests.{lt-ltb, le-ltb}
+use Rattle.std.proofs.Common.{rules, tests}
 use Rattle.sets.specs.Masks.{has_bit}
-use Rattle.posting.specs.Kinds.{kinds, matrix_entry}
+use Rattle.posting.specs.Kinds.{matrix_entry}
 use Rattle.posting.proofs.matrix_entry.Goals as goal
 
-pub returns-then-i-ge-KINDS : goal.returns-then-i-ge-KINDS
-unfolding matrix_entry
-returns-then-i-ge-KINDS c = rw (le-ltb c.args.i kinds (omega arith))
-
-pub returns-then-j-ge-KINDS : goal.returns-then-j-ge-KINDS
-unfolding matrix_entry
-returns-then-j-ge-KINDS c =
-    let args = c.args in
-    rw (lt-ltb args.i kinds (omega arith), le-ltb args.j kinds (omega arith))
-
-pub returns : goal.returns
+pub returns-then-j-lt-KINDS : goal.returns-then-j-lt-KINDS
 unfolding matrix_entry has_bit
-returns c =
-    let args = c.args in
-    rw (lt-ltb args.i kinds (omega arith), lt-ltb args.j kinds (omega arith))
+returns-then-j-lt-KINDS c = search (tests, rules)
+
+pub returns-else-j-lt-KINDS : goal.returns-else-j-lt-KINDS
+unfolding matrix_entry has_bit
+returns-else-j-lt-KINDS c = search (tests, rules)

@@ -1,14 +1,13 @@
 -- `offered_by` meets its contract.
 -- Assumes nothing.
-use native.Mathlib.Omega.{arith}
-use borrow.Author.Tests.{lt-ltb, le-ltb}
+use Rattle.std.proofs.Common.{rules, tests}
 use Rattle.posting.specs.Conflicts.{offered_by}
 use Rattle.posting.proofs.offered_by.Goals as goal
 
-pub returns-then-count-m : goal.returns-then-count-m
+pub returns-then-m-count : goal.returns-then-m-count
 unfolding offered_by
-returns-then-count-m c = rw (le-ltb c.args.m c.args.count (omega arith))
+returns-then-m-count c = search (tests, rules)
 
-pub returns : goal.returns
+pub returns-else-m-count : goal.returns-else-m-count
 unfolding offered_by
-returns c = rw (lt-ltb c.args.m c.args.count (omega arith))
+returns-else-m-count c = search (tests, rules)

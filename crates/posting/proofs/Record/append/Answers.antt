@@ -1,14 +1,13 @@
--- `append` meets its contract.
+-- `append` meets its contract: a full record, or a number past the capacity, leaves it as it is.
 -- Assumes nothing.
-use mathlib.Core.Path.{sym}
-use Rattle.posting.proofs.RecordLaws.{append_full, append_past, append_room}
+use Rattle.std.proofs.Common.{rules, tests}
+use Rattle.posting.specs.Records.{append}
 use Rattle.posting.proofs.Record.append.Goals as goal
 
-pub returns-then-count-ge-POSTINGS : goal.returns-then-count-ge-POSTINGS
-returns-then-count-ge-POSTINGS c = sym (append_full c.args.self c.args.m c.if-count-ge-POSTINGS.true)
+pub returns-then-m-lt-POSTINGS : goal.returns-then-m-lt-POSTINGS
+unfolding append
+returns-then-m-lt-POSTINGS c = search (tests, rules)
 
-pub returns-then-m-ge-POSTINGS : goal.returns-then-m-ge-POSTINGS
-returns-then-m-ge-POSTINGS c = sym (append_past c.args.self c.args.m c.if-m-ge-POSTINGS.true)
-
-pub returns : goal.returns
-returns c = sym (append_room c.args.self c.args.m c.if-count-ge-POSTINGS.false c.if-m-ge-POSTINGS.false)
+pub returns-else-self-lt-POSTINGS : goal.returns-else-self-lt-POSTINGS
+unfolding append
+returns-else-self-lt-POSTINGS c = search (tests, rules)

@@ -4,7 +4,6 @@ use Prim.Native.Nat.{ℕ}
 use mathlib.Core.Path.{◌≡◌, ap, ◌∙◌}
 use native.Mathlib.Numerals.{add-one}
 use native.Mathlib.Omega.{arith}
-use borrow.Author.Rules.{rules}
 use Rattle.sets.specs.Words.{collect}
 use Rattle.sets.specs.Sets.{words, capacity, of_words, with}
 use Rattle.posting.specs.Conflicts.{row, offered, conflict, conflict_set}
@@ -13,20 +12,11 @@ use Rattle.posting.proofs.Table.conflict_set.Goals as goal
 
 pub loop-x-init : goal.loop-x-init
 unfolding collect
-loop-x-init c = (search rules, c.empty-s.ensures)
+loop-x-init c = c.empty-s.ensures
 
 pub loop-x-preserved : goal.loop-x-preserved
 unfolding collect offered conflict row
-loop-x-preserved c = (
-  search rules,
-  rw (
-    add-one,
-    c.with_if-s.ensures,
-    c.offered_conflict-so.ensures,
-    c.row-p.ensures,
-    c.loop-x.invariant.1,
-  ),
-)
+loop-x-preserved c = rw (add-one, c.with_if-s.ensures, c.offered_conflict.ensures, c.row-p.ensures, c.loop-x.invariant)
 
 pub returns : goal.returns
 unfolding conflict_set
@@ -34,4 +24,4 @@ returns c =
     let at = c.loop-x in
     let args = c.args in
     let end : at.x ≡ capacity = omega arith in
-    c.with.ensures ∙ ap (λ s. with s args.m) (at.invariant.1 ∙ ap (λ (n : ℕ). of_words (collect words (others args.matrix args.self args.m) n)) end)
+    c.with.ensures ∙ ap (λ s. with s args.m) (at.invariant ∙ ap (λ (n : ℕ). of_words (collect words (others args.matrix args.self args.m) n)) end)

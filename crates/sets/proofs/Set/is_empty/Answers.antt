@@ -1,36 +1,24 @@
--- `is_empty` meets its contract. The loop's invariant: the answer is that of the words from i on.
+-- `is_empty` meets its contract: what `all` tests is what the words say.
 -- Assumes nothing.
-use mathlib.Core.Path.{◌≡◌, refl, sym, ◌∙◌}
-use native.Mathlib.Omega.{arith}
-use lib.ListN.{length}
+use mathlib.Core.Path.{◌≡◌, refl, ap, ◌∙◌}
+use mathlib.Core.Bool.{Bool, ◌&&◌}
+use mathlib.Core.List.{List, [], ◌∷◌}
+use Prim.Native.Nat.{ℕ}
+use lib.Dec.{eqb}
 use borrow.Author.Rules.{rules}
-use borrow.Author.Tests.{eq-eqb, ne_eqb}
-use Rattle.sets.specs.Sets.{words}
-use Rattle.sets.proofs.Loops.{empty_step, empty_end}
+use Rattle.std.proofs.Common.{tests}
+use Rattle.std.specs.List.{list_all}
+use Rattle.std.proofs.lemmas.Iterator.{YieldsList-from_slice}
+use Rattle.std.proofs.lemmas.Iterator.Search.{all_from_yields_List}
+use Rattle.sets.specs.Words.{is_empty}
 use Rattle.sets.proofs.Set.is_empty.Goals as goal
 
-pub loop-i-init : goal.loop-i-init
-loop-i-init c = (search rules, refl)
-
-pub returns-then-self-i-ne0 : goal.returns-then-self-i-ne0
-returns-then-self-i-ne0 c =
-    let at = c.loop-i in
-    let args = c.args in
-    let long : length args.self.words ≡ words = search rules in
-    sym (at.invariant.1 ∙ empty_step args.self.words at.i (omega arith) ∙ rw (ne_eqb _ _ c.if-self-i-ne0.true))
-
-pub loop-i-preserved : goal.loop-i-preserved
-loop-i-preserved c =
-    let at = c.loop-i in
-    let args = c.args in
-    let long : length args.self.words ≡ words = search rules in (
-      search rules,
-      at.invariant.1 ∙ empty_step args.self.words at.i (omega arith) ∙ rw (eq-eqb _ _ c.if-self-i-ne0.false),
-    )
+empty_as_all : (ws : List ℕ) → list_all (λ (w : ℕ). eqb w 0) ws ≡ is_empty ws
+unfolding is_empty
+empty_as_all [] = refl
+empty_as_all (w ∷ ws) = ap (λ (b : Bool). eqb w 0 && b) (empty_as_all ws)
 
 pub returns : goal.returns
 returns c =
-    let at = c.loop-i in
-    let args = c.args in
-    let long : length args.self.words ≡ words = search rules in
-    sym (at.invariant.1 ∙ empty_end args.self.words at.i (omega arith))
+    let ws = c.args.self.words in
+    all_from_yields_List (λ (w : ℕ). eqb w 0) _ _ _ c.all.ensures.ran (YieldsList-from_slice ws cc) (λ x b q k. search (rules, tests)) ∙ empty_as_all ws

@@ -1,4 +1,4 @@
--- `meet` meets its contract. The loop's invariant: the first i words are combined, the rest are as they were.
+-- `meet` meets its contract.
 -- Assumes nothing.
 use mathlib.Core.Path.{◌≡◌, refl, ap, ◌∙◌}
 use native.Mathlib.Omega.{arith}
@@ -10,16 +10,13 @@ use Rattle.sets.specs.Sets.{words, of_words}
 use Rattle.sets.proofs.Loops.{wordwise_step, wordwise_end}
 use Rattle.sets.proofs.Set.meet.Goals as goal
 
-pub loop-i-init : goal.loop-i-init
-loop-i-init c = (search rules, refl)
-
 pub loop-i-preserved : goal.loop-i-preserved
 loop-i-preserved c =
     let at = c.loop-i in
     let args = c.args in
     let long : length args.self.words ≡ words = search rules in
     let other : length args.t.words ≡ words = search rules in
-    (search rules, wordwise_step bit_and refl args.self.words args.t.words (omega arith) at.self.words at.i (omega arith) at.invariant.1)
+    wordwise_step bit_and refl args.self.words args.t.words (omega arith) at.w-items at.i (omega arith) at.invariant
 
 pub returns : goal.returns
 unfolding intersect
@@ -28,4 +25,4 @@ returns c =
     let args = c.args in
     let long : length args.self.words ≡ words = search rules in
     let other : length args.t.words ≡ words = search rules in
-    ap of_words (at.invariant.1 ∙ wordwise_end bit_and refl args.self.words args.t.words (omega arith) at.i (omega arith))
+    ap of_words (at.invariant ∙ wordwise_end bit_and refl args.self.words args.t.words (omega arith) at.i (omega arith))

@@ -1,11 +1,9 @@
 -- `meet` meets its contract. The loop's invariant: the first i words are combined, the rest are as they were.
 -- Assumes nothing.
-use Prim.Native.Nat.{◌≤◌}
 use mathlib.Core.Path.{◌≡◌}
 use lib.Bits.{bit_and}
-use Rattle.sets.specs.Sets.{words}
 use Rattle.sets.proofs.Loops.{first_words}
 use Rattle.sets.proofs.Set.meet.Given as goal
 
 abbrev pub invariant-loop-i : goal.invariant-loop-i
-invariant-loop-i l = (l.i ≤ words) × (l.self.words ≡ first_words bit_and l.initial.self.words l.t.words l.i)
+invariant-loop-i l = l.w-items ≡ first_words bit_and l.fn.self.words l.t.words l.i

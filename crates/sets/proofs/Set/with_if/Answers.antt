@@ -7,6 +7,6 @@ pub returns-then-so : goal.returns-then-so
 unfolding insert_if
 returns-then-so c = rw (c.if-so.true, c.with.ensures)
 
-pub returns : goal.returns
+pub returns-else-so : goal.returns-else-so
 unfolding insert_if
-returns c = rw c.if-so.false
+returns-else-so c = rw c.if-so.false
