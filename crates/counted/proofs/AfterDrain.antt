@@ -16,8 +16,7 @@ use Rattle.machine.specs.Figures.{showing_all}
 use Rattle.drain.specs.declared.Drained.{Drained}
 use Rattle.drain.specs.Drain.{drained}
 use Rattle.decoder.specs.RunFile.{calls_of}
-use Rattle.runfile.specs.declared.begin.Begun.{Begun}
-use Rattle.runfile.specs.Begins.{begun_by}
+use Rattle.runfile.specs.Begins.{Begun, begun_by}
 use Rattle.runfile.proofs.Programs.{begun_refused, begun_taken}
 use Rattle.counted.specs.Answers.{Counted, no_count, not_done}
 use Rattle.counted.specs.Drains.{drained_run, drained_from, drained_file}

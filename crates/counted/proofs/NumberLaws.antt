@@ -11,8 +11,7 @@ use Rattle.machine.specs.declared.Outcome.{Outcome}
 use Rattle.machine.specs.Boards.{fresh_board}
 use Rattle.machine.specs.ByMask.{taken}
 use Rattle.decoder.specs.RunFile.{event_count, calls_of}
-use Rattle.runfile.specs.declared.begin.Begun.{Begun}
-use Rattle.runfile.specs.Begins.{begun_by}
+use Rattle.runfile.specs.Begins.{Begun, begun_by}
 use Rattle.runfile.specs.Program.{refusals}
 use Rattle.runfile.proofs.Programs.{begun_refused, begun_taken}
 use Rattle.counted.specs.Answers.{Counted, no_count, not_done}

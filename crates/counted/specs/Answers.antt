@@ -1,8 +1,6 @@
 -- What a function over a file and a slice answers: a count, and the slice.
 -- Rests on printer.
-use Rattle.std.specs.Prelude.{ℕ, List}
-use Rattle.printer.specs.declared.Printed.{Printed}
-use Rattle.printer.specs.declared.Printed.TheVariants.{Written, Short}
+use Rattle.std.specs.Prelude.{ℕ, List, Option, Some, None}
 
 -- the answer where there is no count: 2^64 − 1, which is no slice's length
 abbrev pub no_count : ℕ
@@ -17,6 +15,6 @@ abbrev pub not_done : {A : Type 0} → List A → Counted A
 not_done slice = record { count = no_count; slice = slice }
 
 -- how many bytes were written; no count where the slice is too short
-abbrev pub count_of : Printed → ℕ
-count_of (Written count) = count
-count_of Short = no_count
+abbrev pub count_of : Option ℕ → ℕ
+count_of (Some count) = count
+count_of None = no_count

@@ -11,8 +11,7 @@ use Rattle.machine.specs.declared.Answer.{Answer}
 use Rattle.machine.specs.declared.Board.{Board}
 use Rattle.steps.specs.declared.Call.{Call}
 use Rattle.machine.specs.Calls.{refusal_of}
-use Rattle.runfile.specs.declared.begin.Begun.{Begun}
-use Rattle.runfile.specs.Begins.{begun_by}
+use Rattle.runfile.specs.Begins.{Begun, begun_by}
 use Rattle.runfile.specs.Files.{of_file}
 use Rattle.runfile.proofs.Programs.{file_refuses}
 use Rattle.counted.specs.Answers.{Counted}

@@ -24,15 +24,14 @@ use Rattle.machine.specs.Runs.{accepted, running, is_quiet}
 use Rattle.invariants.proofs.Reached.{GoodIf}
 use Rattle.invariants.proofs.Start.{reached_good, reached_sound}
 use Rattle.printer.specs.declared.Ended.{Ended}
-use Rattle.printer.specs.declared.Printed.{Printed}
+use Rattle.std.specs.Prelude.{Option}
 use Rattle.decoder.specs.RunFile.{setup_of, header_ok, length_ok, events_ok, event_count, event_limit, well_formed, calls_of}
 use Rattle.printer.specs.Output.{refused_line, printed_of}
 use Rattle.printer.proofs.Writing.{Prints}
 use Rattle.steps.specs.CauseLists.{first_cause}
 use Rattle.machine.specs.ByMask.{start_causes, refusing, taken}
 use Rattle.machine.proofs.Causes.{start_refused, start_done}
-use Rattle.runfile.specs.declared.begin.Begun.{Begun}
-use Rattle.runfile.specs.Begins.{begun_by}
+use Rattle.runfile.specs.Begins.{Begun, begun_by}
 use Rattle.runfile.specs.Files.{of_start, of_file}
 use Rattle.runfile.specs.Program.{StaysSound, ended_on, refusals, printed_run, printed_from, printed}
 
@@ -54,7 +53,7 @@ unfolding printed_run
 run_printed b last calls numbers quiet ended el en eq ee = rw (ee, eq, el, en)
 
 -- a text printed, by another name
-pub printed_as : {a b t : List ℕ} {x : Printed} (s : List ℕ) → a ≡ b → Prints a s x t → Prints b s x t
+pub printed_as : {a b t : List ℕ} {x : Option ℕ} (s : List ℕ) → a ≡ b → Prints a s x t → Prints b s x t
 printed_as s e (h, (k, l)) = (rw e at h, (rw e at k, rw e at l))
 
 -- ---- a start
@@ -108,9 +107,9 @@ module _ (setup : Setup) (why : ℕ) (tested : why ≡ first_cause (start_causes
 
 -- ---- how a file begins
 
-pub begun_malformed : (input : List ℕ) (setup : Setup) → setup ≡ setup_of input → well_formed input ≡ false → record { setup = setup; why = 1 } ≡ begun_by input
+pub begun_malformed : (input : List ℕ) → well_formed input ≡ false → record { setup = setup_of input; why = 1 } ≡ begun_by input
 unfolding begun_by
-begun_malformed input setup es f = rw (f, es)
+begun_malformed input f = rw f
 
 pub begun_tested :
     (input : List ℕ) (setup : Setup) (why : ℕ) → setup ≡ setup_of input → well_formed input ≡ true

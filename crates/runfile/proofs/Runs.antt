@@ -17,7 +17,7 @@ use Rattle.site.specs.declared.Site.{Site}
 use Rattle.site.specs.Sites.{sites}
 use Rattle.arrays.specs.Layout.{down_at}
 use Rattle.arrays.specs.declared.Arrays.{Arrays}
-use Rattle.arrays.specs.Arrays.{byte}
+use Rattle.arrays.specs.Arrays.{zeros, byte}
 use Rattle.flat.specs.Flat.{Flat, flat, flat_perform}
 use Rattle.machine.specs.declared.Board.{Board}
 use Rattle.steps.specs.declared.Call.{Call}
@@ -32,7 +32,7 @@ use Rattle.views.specs.Views as view_of
 use Rattle.machine.specs.Figures.{record_of}
 use Rattle.machine.proofs.ByteStores.{table_same}
 use Rattle.machine.proofs.Local.{site_at_lem, site_record}
-use Rattle.machine.proofs.Fresh.{zeros, fresh_shown}
+use Rattle.machine.proofs.Fresh.{fresh_shown}
 use Rattle.machine.proofs.Performed.{perform_gives}
 use Rattle.printer.specs.declared.Ended.{Ended}
 use Rattle.decoder.specs.RunFile.{call_at, calls_of, event_count}

@@ -1,27 +1,21 @@
 // How a run file begins: the one test of a file and of its start, for all that runs one.
 // Rests on decoder, whole_board and site.
 ghost use Rattle.std.specs.Prelude.{◌≡◌};
-ghost use Rattle.runfile.specs.Begins.{begun_by};
+ghost use Rattle.runfile.specs.Begins.{begun_of, begun_by};
 
 use decoder::file::{setup_of, well_formed};
 use site::Setup;
-use whole_board::opening::start_refusal;
+use steps::Refusal;
+use whole_board::opening::start_fits;
 
-// The setup of a file, and the number of its refusal: 1 if it is malformed, that of its start, or 0 if it runs.
-#[derive(Drop)]
-pub struct Begun {
-    pub setup: Setup,
-    pub why: u8,
-}
-
-// How a file begins, of any bytes.
-pub fn begin(input: &[u8]) -> Begun
-    ensures { result ≡ begun_by input.now }
+// How a file begins, of any bytes: the setup of one that runs, else its refusal.
+pub fn begin(input: &[u8]) -> Result<Setup, Refusal>
+    ensures { begun_of input.now result ≡ begun_by input.now }
 {
-    let setup = setup_of(input);
-    if well_formed(input) {
-        let why = start_refusal(setup.n, setup.f, setup.matrix);
-        return Begun { setup, why };
+    if !well_formed(input) {
+        return Err(Refusal::MalformedFile);
     }
-    Begun { setup, why: 1 }
+    let setup = setup_of(input);
+    start_fits(setup.n, setup.f, setup.matrix)?;
+    Ok(setup)
 }

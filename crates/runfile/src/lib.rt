@@ -2,13 +2,12 @@
 // Rests on whole_board and printer.
 #![tactic(auto)]
 
-ghost use Rattle.std.specs.Prelude.{ℕ, ◌≡◌, List};
+ghost use Rattle.std.specs.Prelude.{◌≡◌};
 ghost use Rattle.site.specs.declared.Setup.{Setup};
-ghost use Rattle.arrays.specs.Arrays.{arrays};
 ghost use Rattle.machine.specs.View.{view};
 ghost use Rattle.runfile.specs.Program.{ended_on};
 
-use arrays::{BYTES, COUNTS, DOWN};
+use arrays::{Arrays, DOWN};
 use printer::Ended;
 use views::log_of;
 use whole_board::figures::records_of;
@@ -18,16 +17,14 @@ pub mod event;
 pub mod run;
 
 // What is shown of a board at work of n sites, of which it is known whether it is quiet.
-pub fn ended_on(counts: &[usize; COUNTS], bytes: &[u8; BYTES], n: u8, quiet: bool) -> Ended
-    ensures { (setup : Setup) (sets amounts masks good carried : List ℕ) → n ≡ setup.n → result ≡ ended_on (view setup (arrays sets counts.now bytes.now amounts masks good carried)) quiet }
+pub fn ended_on(board: &Arrays, n: u8, quiet: bool) -> Ended
+    ensures { (setup : Setup) → n ≡ setup.n → result ≡ ended_on (view setup board.now) quiet }
 {
-    let records = records_of(counts, bytes);
-    let log = log_of(counts, bytes);
     Ended {
         n,
-        down: bytes[DOWN],
-        records,
-        log,
+        down: board.bytes[DOWN],
+        records: records_of(board),
+        log: log_of(board),
         quiet,
     }
 }

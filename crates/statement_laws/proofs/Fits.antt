@@ -23,7 +23,7 @@ use Rattle.machine.specs.Figures.{record_of, figures_of, figures_of_all}
 use Rattle.invariants.proofs.Reached.{Good, good_sites}
 use Rattle.agreement.proofs.Posted.{books_room}
 use Rattle.decoder.specs.RunFile.{setup_of, well_formed, calls_of}
-use Rattle.printer.specs.declared.Printed.TheVariants.{Written}
+use Rattle.std.proofs.Common.{Some}
 use Rattle.printer.specs.Writing.{slice_printed, answer_printed}
 use Rattle.printer.specs.Output.{decimal, up_word, down_word, newline}
 use Rattle.printer.proofs.Lengths.{decimal_length, three_digits, state_length}
@@ -180,5 +180,5 @@ statement_fits input =
 
 -- So into the buffer every statement is written, and whole.
 pub statement_written : (input buffer : List ℕ) → length buffer ≡ 65_536
-    → (answer_printed (stated input) buffer ≡ Written (length (stated input))) × (slice_printed (stated input) buffer ≡ stated input ++ drop (length (stated input)) buffer)
+    → (answer_printed (stated input) buffer ≡ Some (length (stated input))) × (slice_printed (stated input) buffer ≡ stated input ++ drop (length (stated input)) buffer)
 statement_written input buffer e = fits_written (stated input) buffer (omega (arith, statement_fits input, e))

@@ -29,8 +29,7 @@ use Rattle.drain.proofs.Loop.{next_cases, draining_none, draining_event}
 use Rattle.decoder.specs.RunFile.{calls_of}
 use Rattle.printer.specs.Output.{refused_line}
 use Rattle.statements.specs.Table.{statement_text}
-use Rattle.runfile.specs.declared.begin.Begun.{Begun}
-use Rattle.runfile.specs.Begins.{begun_by}
+use Rattle.runfile.specs.Begins.{Begun, begun_by}
 use Rattle.runfile.specs.Program.{StaysSound}
 use Rattle.runfile.proofs.Programs.{begun_refused, begun_taken}
 use Rattle.statements.specs.Statement.{statement_of, stated_run, stated_from, stated}

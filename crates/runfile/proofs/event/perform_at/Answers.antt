@@ -1,7 +1,6 @@
 -- `perform_at` meets its contract.
 -- Assumes nothing.
 use mathlib.Core.Path.{ap, ◌∙◌}
-use Rattle.arrays.specs.Arrays.{arrays}
 use Rattle.flat.specs.Flat.{flat_perform}
 use Rattle.decoder.specs.RunFile.{call_of}
 use Rattle.decoder.proofs.Events.{event_part}
@@ -11,14 +10,11 @@ use Rattle.runfile.proofs.event.perform_at.Goals as goal
 pub returns-then-k-event_count : goal.returns-then-k-event_count
 returns-then-k-event_count c =
     let g = c.args in
-    let a = arrays g.words.now g.counts.now g.bytes.now g.amounts.now g.masks.now g.good.now g.carried.now in
     let call = ap call_of (event_part g.input.now g.k) ∙ call_within g.input.now g.k _ c.event_count.ensures c.if-k-event_count.true in
-    c.perform_event.ensures ∙ ap (flat_perform g.setup a) call
+    c.perform_event.ensures ∙ ap (flat_perform g.setup g.board.now) call
 
 pub returns : goal.returns
 unfolding flat_perform
 returns c =
     let g = c.args in
-    let a = arrays g.words.now g.counts.now g.bytes.now g.amounts.now g.masks.now g.good.now g.carried.now in
-    c.crash.ensures g.words.now g.counts.now g.amounts.now g.masks.now g.good.now g.carried.now
-    ∙ ap (flat_perform g.setup a) (call_past g.input.now g.k _ c.event_count.ensures c.if-k-event_count.false)
+    c.crash.ensures ∙ ap (flat_perform g.setup g.board.now) (call_past g.input.now g.k _ c.event_count.ensures c.if-k-event_count.false)

@@ -14,8 +14,8 @@ loop-k-init c =
     let p = c.requires in
     ran_none g.setup g.input.now g.numbers.now g.first g.last _ p.0 p.2
 
-pub perform_at-requires : goal.perform_at-requires
-perform_at-requires c =
+pub perform_at-answer-requires : goal.perform_at-answer-requires
+perform_at-answer-requires c =
     let g = c.args in
     let p = c.requires in
     let at = c.loop-k in
@@ -40,7 +40,8 @@ loop-k-preserved c =
     let g = c.args in
     let p = c.requires in
     let at = c.loop-k in
-    ran_more g.setup g.input.now g.numbers.now g.first g.last p.1 p.3 at.invariant c.loop-k-test.true _ _ c.perform_at.ensures
+    rw c.answer_number.ensures
+    (ran_more g.setup g.input.now g.numbers.now g.first g.last p.1 p.3 at.invariant c.loop-k-test.true _ _ c.perform_at-answer.ensures)
 
 pub shape_of-numbers : goal.shape_of-numbers
 shape_of-numbers c =
