@@ -13,12 +13,9 @@ ghost use Rattle.machine.specs.ByMask.{taken};
 ghost use Rattle.counted.specs.Drains.{drained_run, drained_file};
 ghost use Rattle.counted.specs.Numbers.{numbered_from, numbered_file};
 
-use arrays::{BYTES, COUNTS, SETS};
+use arrays::Arrays;
 use decoder::file::event_count;
-use flight::{LOADS, MASKS, PAIRS};
-use printer::Printed;
 use runfile::begin::begin;
-use sets::POSTINGS;
 use site::Setup;
 use statements::run_and_drain;
 
@@ -30,14 +27,9 @@ pub fn run_file(input: &[u8], out: &mut [u8]) -> u64
     ensures value { result ≡ count_of (answer_printed (printed input.now) out.old) }
     ensures out_after { out.new ≡ slice_printed (printed input.now) out.old }
 {
-    let answer = runfile::run::run_file(input, out);
-    match answer {
-        Printed::Written(count) => {
-            return count as u64;
-        }
-        Printed::Short => {
-            return NO_COUNT;
-        }
+    match runfile::run::run_file(input, out) {
+        Some(count) => count as u64,
+        None => NO_COUNT,
     }
 }
 
@@ -60,11 +52,10 @@ pub fn run_drain(input: &[u8], limit: u64, out: &mut [i64]) -> u64
     ensures value { result ≡ (drained_file input.now limit out.old).count }
     ensures out_after { out.new ≡ (drained_file input.now limit out.old).slice }
 {
-    let begun = begin(input);
-    if begun.why != 0 {
-        return NO_COUNT;
+    match begin(input) {
+        Ok(setup) => drain_from(input, setup, limit, out),
+        Err(_) => NO_COUNT,
     }
-    drain_from(input, begun.setup, limit, out)
 }
 
 // The events of a file from the board of its start, the number of each answer at its place; NO_COUNT if the slice has no room for them.
@@ -77,27 +68,8 @@ fn answer_from(input: &[u8], setup: Setup, numbers: &mut [u8]) -> u64
     if numbers.len() < count {
         return NO_COUNT;
     }
-    let mut words = [0; SETS];
-    let mut counts = [0; COUNTS];
-    let mut bytes = [0; BYTES];
-    let mut amounts = [0; POSTINGS];
-    let mut masks = [0; MASKS];
-    let mut good = [0; PAIRS];
-    let mut carried = [0; LOADS];
-    runfile::run::run_events(
-        &mut words,
-        &mut counts,
-        &mut bytes,
-        &mut amounts,
-        &mut masks,
-        &mut good,
-        &mut carried,
-        setup,
-        input,
-        0,
-        count,
-        numbers,
-    );
+    let mut board = Arrays::empty();
+    runfile::run::run_events(&mut board, setup, input, 0, count, numbers);
     count as u64
 }
 
@@ -107,9 +79,8 @@ pub fn run_events(input: &[u8], numbers: &mut [u8]) -> u64
     ensures value { result ≡ (numbered_file input.now numbers.old).count }
     ensures numbers_after { numbers.new ≡ (numbered_file input.now numbers.old).slice }
 {
-    let begun = begin(input);
-    if begun.why != 0 {
-        return NO_COUNT;
+    match begin(input) {
+        Ok(setup) => answer_from(input, setup, numbers),
+        Err(_) => NO_COUNT,
     }
-    answer_from(input, begun.setup, numbers)
 }

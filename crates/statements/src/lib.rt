@@ -15,16 +15,14 @@ ghost use Rattle.printer.specs.Writing.{slice_printed, written_of, answer_printe
 ghost use Rattle.statements.specs.Statement.{stated_run, stated};
 
 use crate::lines::print_statement;
-use arrays::{BYTES, COUNTS, DOWN, SETS};
+use arrays::{Arrays, DOWN};
 use books::FIGURES;
 use decoder::file::{EVENTS, event_count};
 use drain::drain_events;
-use flight::{LOADS, MASKS, PAIRS};
-use printer::Printed;
 use printer::print::print_refused;
 use runfile::begin::begin;
 use runfile::run::{refusal_of, run_events};
-use sets::{POSTINGS, wide};
+use sets::wide;
 use site::{SITES, Setup};
 use whole_board::figures::books_all_at;
 
@@ -54,51 +52,21 @@ pub fn run_and_drain(input: &[u8], setup: Setup, limit: u64, out: &mut [i64]) ->
     ensures limit_value { (drained (running (fresh_board setup) (calls_of input.now)) limit).board.setup ≡ setup }
     ensures out_after { out.new ≡ (showing_all (drained (running (fresh_board setup) (calls_of input.now)) limit).board out.old).slice }
 {
-    let mut words = [0; SETS];
-    let mut counts = [0; COUNTS];
-    let mut bytes = [0; BYTES];
-    let mut amounts = [0; POSTINGS];
-    let mut masks = [0; MASKS];
-    let mut good = [0; PAIRS];
-    let mut carried = [0; LOADS];
+    let mut board = Arrays::empty();
     let mut numbers = [0; EVENTS];
     let events = event_count(input);
-    run_events(
-        &mut words,
-        &mut counts,
-        &mut bytes,
-        &mut amounts,
-        &mut masks,
-        &mut good,
-        &mut carried,
-        setup,
-        input,
-        0,
-        events,
-        &mut numbers,
-    );
-    let done = drain_events(
-        &mut words,
-        &mut counts,
-        &mut bytes,
-        &mut amounts,
-        &mut masks,
-        &mut good,
-        &mut carried,
-        setup,
-        limit,
-    );
-    let answer = books_all_at(&counts, &bytes, &amounts, setup, out);
-    let why = refusal_of(answer);
+    run_events(&mut board, setup, input, 0, events, &mut numbers);
+    let done = drain_events(&mut board, setup, limit);
+    let answer = books_all_at(&board, setup, out);
     AfterDrain {
         count: done.count,
-        down: bytes[DOWN],
-        why: why,
+        down: board.bytes[DOWN],
+        why: refusal_of(answer),
     }
 }
 
 // The events of a file from the board of its start, then a drain, and the statement of the board that it leaves, printed.
-fn state_from(input: &[u8], setup: Setup, out: &mut [u8]) -> Printed
+fn state_from(input: &[u8], setup: Setup, out: &mut [u8]) -> Option<usize>
     requires { StaysSound (fresh_board setup) × GoodIf false (fresh_board setup) × (event_count input.now ≤ event_limit) }
     ensures value { result ≡ answer_printed (stated_run (fresh_board setup) (calls_of input.now)) out.old }
     ensures out_after { out.new ≡ slice_printed (stated_run (fresh_board setup) (calls_of input.now)) out.old }
@@ -112,14 +80,13 @@ fn state_from(input: &[u8], setup: Setup, out: &mut [u8]) -> Printed
 }
 
 // A run file, run, drained and stated: of any input what `statement` prints, into the slice if it has room for it.
-pub fn statement(input: &[u8], out: &mut [u8]) -> Printed
+pub fn statement(input: &[u8], out: &mut [u8]) -> Option<usize>
     ensures value { result ≡ answer_printed (stated input.now) out.old }
     ensures out_after { out.new ≡ slice_printed (stated input.now) out.old }
     ensures result_value { written_of result ≡ written_of (answer_printed (stated input.now) out.old) }
 {
-    let begun = begin(input);
-    if begun.why != 0 {
-        return print_refused(begun.why, out);
+    match begin(input) {
+        Ok(setup) => state_from(input, setup, out),
+        Err(refusal) => print_refused(refusal.number(), out),
     }
-    state_from(input, begun.setup, out)
 }

@@ -1,7 +1,6 @@
 -- `answer_from` meets its contract.
 -- Assumes nothing.
 use native.Mathlib.Omega.{arith}
-use Rattle.arrays.specs.Arrays.{arrays}
 use Rattle.machine.proofs.Fresh.{fresh_shown, fresh_right}
 use Rattle.runfile.proofs.Runs.{fresh_noted}
 use Rattle.counted.proofs.NumberLaws.{no_place, all_numbered}
@@ -13,12 +12,14 @@ returns-then-numbers-count c =
 
 pub run_events-requires : goal.run_events-requires
 run_events-requires c =
-    (fresh_right, rw (fresh_shown c.args.setup) c.requires.0, omega arith, c.if-numbers-count.false)
+    rw c.empty-board.ensures (fresh_right, rw (fresh_shown c.args.setup) c.requires.0, omega arith, c.if-numbers-count.false)
 
 pub returns : goal.returns
 returns c =
     let g = c.args in
     let n = c.event_count-count in
     let l = c.run_events.new in
-    let d = arrays l.words l.counts l.bytes l.amounts l.masks l.good l.carried in
-    let noted = fresh_noted g.setup g.input.now g.numbers.now n.result n.ensures d l.numbers c.run_events.ensures.numbers_after in let shown = all_numbered g.setup g.input.now g.numbers.now _ n.ensures _ c.if-numbers-count.false noted in record { value = shown.0; numbers_after = shown.1 }
+    let noted = fresh_noted g.setup g.input.now g.numbers.now n.result n.ensures l.board l.numbers
+    (rw c.empty-board.ensures at c.run_events.ensures.numbers_after) in
+    let shown = all_numbered g.setup g.input.now g.numbers.now _ n.ensures _ c.if-numbers-count.false noted in
+    record { value = shown.0; numbers_after = shown.1 }

@@ -9,7 +9,6 @@ use lib.ListN.{replicate, length-replicate}
 use Rattle.site.specs.declared.Setup.{Setup}
 use Rattle.steps.specs.declared.Call.{Call}
 use Rattle.arrays.specs.declared.Arrays.{Arrays}
-use Rattle.arrays.specs.Arrays.{arrays}
 use Rattle.machine.specs.Boards.{fresh_board}
 use Rattle.machine.specs.Calls.{refusal_of}
 use Rattle.machine.specs.Soundness.{is_sound}
@@ -30,7 +29,7 @@ pub run_events-requires : goal.run_events-requires
 run_events-requires c =
     let g = c.args in
     let p = c.requires in
-    (fresh_right, rw (fresh_shown g.setup) p.0, omega arith, omega (arith, c.event_count-events.ensures, p.2, length-replicate {A = ℕ} 4096 0))
+    rw c.empty-board.ensures (fresh_right, rw (fresh_shown g.setup) p.0, omega arith, omega (arith, c.event_count-events.ensures, p.2, length-replicate {A = ℕ} 4096 0))
 
 -- ---- what the run has left, and the drain after it
 abbrev setup : After-run_events → Setup
@@ -40,24 +39,21 @@ abbrev calls : After-run_events → List Call
 calls c = calls_of c.args.input.now
 
 abbrev after_run : After-run_events → Arrays
-after_run c =
-    let l = c.run_events.new in
-    arrays l.words l.counts l.bytes l.amounts l.masks l.good l.carried
+after_run c = c.run_events.new.board
 
 run : (c : After-run_events) → view (setup c) (after_run c) ≡ running (fresh_board (setup c)) (calls c)
-run c = fresh_run (setup c) c.args.input.now (replicate 4096 0) c.event_count-events.result c.event_count-events.ensures (after_run c) c.run_events.new.numbers c.run_events.ensures.carried_after
+run c = fresh_run (setup c) c.args.input.now (replicate 4096 0) c.event_count-events.result c.event_count-events.ensures (after_run c) c.run_events.new.numbers
+    (rw c.empty-board.ensures at c.run_events.ensures.carried_after)
 
 abbrev left : After-drain_events-done → Arrays
-left c =
-    let l = c.drain_events-done.new in
-    arrays l.words l.counts l.bytes l.amounts l.masks l.good l.carried
+left c = c.drain_events-done.new.board
 
 sound : (c : After-drain_events-done) → is_sound (view c.args.setup (left c)) ≡ true
 sound c =
-    let l = c.run_events.new in
-    let ran = arrays l.words l.counts l.bytes l.amounts l.masks l.good l.carried in
+    let ran = c.run_events.new.board in
     let input = c.args.input.now in
-    let shown = fresh_run c.args.setup input (replicate 4096 0) c.event_count-events.result c.event_count-events.ensures ran l.numbers c.run_events.ensures.carried_after in
+    let shown = fresh_run c.args.setup input (replicate 4096 0) c.event_count-events.result c.event_count-events.ensures ran c.run_events.new.numbers
+    (rw c.empty-board.ensures at c.run_events.ensures.carried_after) in
     rw (settled_view c.args.setup (calls_of input) c.args.limit c.requires.0 ran (left c) shown c.drain_events-done.ensures.carried_after)
     (settled_sound c.args.setup (calls_of input) c.args.limit c.requires.0)
 
@@ -81,10 +77,10 @@ returns c =
     let d = left at in
     let r = run (goal.at.returns c).After-run_events in
     let done = c.drain_events-done.ensures in
-    let books = settled_books s l c.args.limit c.requires.0 a d r done.carried_after _ c.args.out.now _ (c.books_all_at-answer.ensures d.sets d.masks d.good d.carried) in record {
+    let books = settled_books s l c.args.limit c.requires.0 a d r done.carried_after _ c.args.out.now _ c.books_all_at-answer.ensures in record {
       count_value = settled_count s l c.args.limit c.requires.0 a d r done.carried_after _ done.count_value;
       down_value = settled_down s l c.args.limit c.requires.0 a d r done.carried_after;
-      why_value = c.refusal_of-why.ensures ∙ ap refusal_of books.0;
+      why_value = c.refusal_of.ensures ∙ ap refusal_of books.0;
       limit_value = settled_setup s l c.args.limit c.requires.0 a d r done.carried_after;
       out_after = books.1;
     }
