@@ -10,21 +10,19 @@ ghost use Rattle.by_value.specs.Changed.{is_request, request_of, reply_of_call, 
 
 use crate::run::take_call;
 use crate::{Reply, Request};
-use arrays::{BYTES, COUNTS, SETS};
+use arrays::Arrays;
 use counted::NO_COUNT;
 use decoder::file::{EVENT, EVENTS, call_of, event_count, event_ok, setup_of, well_formed};
 use drain::{Ending, drain};
-use flight::{LOADS, MASKS, PAIRS};
 use image::writing::write_image;
 use image::{IMAGE, changed};
 use machine::taking::board_of;
 use machine::{Answer, Board};
 use runfile::run::{refusal_of, run_events};
-use sets::POSTINGS;
 use site::Setup;
 use steps::Call;
 use whole_board::figures::books_all;
-use whole_board::opening::start_refusal;
+use whole_board::opening::start_fits;
 
 // The codes that no event of a run file has.
 const DRAIN: u8 = 0;
@@ -213,45 +211,18 @@ pub fn board_after(input: &[u8], setup: Setup) -> Board
     requires { StaysSound (fresh_board setup) × (event_count input.now ≤ event_limit) }
     ensures { result ≡ running (fresh_board setup) (calls_of input.now) }
 {
-    let mut words = [0; SETS];
-    let mut counts = [0; COUNTS];
-    let mut bytes = [0; BYTES];
-    let mut amounts = [0; POSTINGS];
-    let mut masks = [0; MASKS];
-    let mut good = [0; PAIRS];
-    let mut carried = [0; LOADS];
+    let mut board = Arrays::empty();
     let mut numbers = [0; EVENTS];
     let count = event_count(input);
-    run_events(
-        &mut words,
-        &mut counts,
-        &mut bytes,
-        &mut amounts,
-        &mut masks,
-        &mut good,
-        &mut carried,
-        setup,
-        input,
-        0,
-        count,
-        &mut numbers,
-    );
-    board_of(
-        &words, &counts, &bytes, &amounts, masks, good, carried, setup,
-    )
+    run_events(&mut board, setup, input, 0, count, &mut numbers);
+    board_of(&board, setup)
 }
 
 // Whether the file is well formed, the bytes ask for something, and a slice of so many numbers has room.
 fn may_call(input: &[u8], event: &[u8], room: usize) -> bool
     ensures { result ≡ may_call input.now event.now room }
 {
-    if well_formed(input) {
-        if is_request(event) {
-            return FILLED <= room;
-        }
-        return false;
-    }
-    false
+    well_formed(input) && is_request(event) && FILLED <= room
 }
 
 // The board that the file leaves, with the number at `place` of its row replaced by `value`, takes the call that `event` asks for: the answer is the
@@ -270,16 +241,15 @@ pub fn call_changed(
     ensures figures_after { figures.new ≡ (call_changed input.now place value event.now limit figures.old board.old).figures }
     ensures board_after { board.new ≡ (call_changed input.now place value event.now limit figures.old board.old).board }
 {
-    if may_call(input, event, board.len()) {
-        let setup = setup_of(input);
-        let refusal = start_refusal(setup.n, setup.f, setup.matrix);
-        if refusal != 0 {
-            return NO_COUNT;
-        }
-        let left = board_after(input, setup);
-        let before = changed(left, place as usize, value);
-        let request = request_of(event);
-        return hand_back(before, request, limit, figures, board);
+    if !may_call(input, event, board.len()) {
+        return NO_COUNT;
     }
-    NO_COUNT
+    let setup = setup_of(input);
+    let Ok(()) = start_fits(setup.n, setup.f, setup.matrix) else {
+        return NO_COUNT;
+    };
+    let left = board_after(input, setup);
+    let before = changed(left, place as usize, value);
+    let request = request_of(event);
+    hand_back(before, request, limit, figures, board)
 }

@@ -26,27 +26,17 @@ pub fn take_call(board: Board, call: Call) -> Outcome
             b,
             amount,
             cut,
-        } => {
-            return board.offer(site, kind, a, b, amount, cut);
-        }
+        } => board.offer(site, kind, a, b, amount, cut),
         Call::Receive {
             form,
             posting,
             from,
             to,
             cut,
-        } => {
-            return board.receive(form, posting, from, to, cut);
-        }
-        Call::Order { posting } => {
-            return board.order(posting);
-        }
-        Call::Read { site, cut } => {
-            return board.read(site, cut);
-        }
-        Call::Crash { site } => {
-            return board.crash(site);
-        }
+        } => board.receive(form, posting, from, to, cut),
+        Call::Order { posting } => board.order(posting),
+        Call::Read { site, cut } => board.read(site, cut),
+        Call::Crash { site } => board.crash(site),
     }
 }
 

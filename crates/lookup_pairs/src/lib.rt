@@ -6,6 +6,7 @@ ghost use Rattle.std.specs.Prelude.{◌+◌, ◌*◌, ◌≤◌, ◌≡◌, ◌+
 ghost use Rattle.sets.specs.Below.{any_below};
 ghost use Rattle.masks.specs.SiteMasks.{room};
 ghost use Rattle.steps.specs.CauseLists.{first_cause};
+ghost use Rattle.steps.specs.Refusals.{answer_number};
 ghost use Rattle.lookup_pairs.specs.Pairs.{pair_count, pair_causes, lines_of};
 ghost use Rattle.lookup_pairs.specs.Gathered.{named_to, block_of, Within};
 
@@ -13,6 +14,7 @@ use books::FIGURES;
 use masks::with_site;
 use posting::ACCOUNTS;
 use sets::wide;
+use steps::Refusal;
 
 // The most pairs that are looked up at once.
 const PAIRS: usize = 256;
@@ -34,24 +36,24 @@ fn some_past(pairs: &[u8], place: usize, limit: u8) -> bool
     false
 }
 
-// 7 and 18 of pairs, for n sites and a lent slice of so many numbers: the number of the first that applies, 0 if none does.
-pub fn pairs_refusal(pairs: &[u8], n: u8, room: usize) -> u8
-    ensures { result ≡ first_cause (pair_causes n room pairs.now) }
+// 7 and 18 of pairs, for n sites and a lent slice of so many numbers.
+pub fn pairs_fit(pairs: &[u8], n: u8, room: usize) -> Result<(), Refusal>
+    ensures { answer_number result ≡ first_cause (pair_causes n room pairs.now) }
 {
     if some_past(pairs, 0, n) {
-        return 7;
+        return Err(Refusal::NoSite);
     }
     let count = pairs.len() / 2;
     if PAIRS < count {
-        return 18;
+        return Err(Refusal::BadPairs);
     }
     if some_past(pairs, 1, ACCOUNTS) {
-        return 18;
+        return Err(Refusal::BadPairs);
     }
     if room < LINE * count {
-        return 18;
+        return Err(Refusal::BadPairs);
     }
-    0
+    Ok(())
 }
 
 // The sites that some pair names, as a mask.

@@ -107,20 +107,13 @@ module _ (b : Board) (pairs : List ℕ) (out : List ℤ) where
 
 -- ---- what arrays show
 
--- what a look-up reads of a board at work
-abbrev pub read : List ℕ → List ℕ → List ℕ → Arrays
-read counts bytes amounts = arrays [] counts bytes amounts [] [] []
-
 -- the board shows the records and the books that stand there
 module _ (setup : Setup) (a : Arrays) (p : ℕ) (there : p < sites) where
-  abbrev own : Arrays
-  own = read a.counts a.bytes a.amounts
-
-  pub record_shown : lines_at own p ≡ record_of (view setup a) p
+  pub record_shown : lines_at a p ≡ record_of (view setup a) p
   unfolding record_in
   record_shown = ap numbers_of (sym (site_record a p)) ∙ ap (λ (s : Site). numbers_of s.delivered) (sym (site_at_lem setup a p there))
 
-  pub numbers_shown : numbers_at own p ≡ figures_of (view setup a) p
+  pub numbers_shown : numbers_at a p ≡ figures_of (view setup a) p
   unfolding figures_of view table_of row_of
   numbers_shown = ap (λ (l : List ℕ). numbers (books blank (table_of a) l)) record_shown
 
@@ -152,16 +145,16 @@ module _ (setup : Setup) (a : Arrays) (few : setup.n ≤ sites) (pairs : List �
         ∙ any_from (λ j. eqb (site_in pairs i) (site_in pairs j)) (pair_count pairs) i h (eq-eqb (site_in pairs i) (site_in pairs i) refl)
 
     pub done_at : is_sound (view setup a) ≡ true
-        → (mask : ℕ) → mask ≡ named → (visited : ℕ) → visited ≡ visited_to setup.n (has_bit mask) (places_at (read a.counts a.bytes a.amounts))
-        → (figures : List ℤ) → Gathered (numbers_at (read a.counts a.bytes a.amounts)) mask setup.n figures
+        → (mask : ℕ) → mask ≡ named → (visited : ℕ) → visited ≡ visited_to setup.n (has_bit mask) (places_at a)
+        → (figures : List ℤ) → Gathered (numbers_at a) mask setup.n figures
         → (left : List ℤ) → left ≡ lines_of (block_of figures) pairs ++ drop (4 * pair_count pairs) out
         → Gives Done visited left (view setup a) pairs out
     unfolding view visited_of is_named
     done_at sound mask em visited ev figures g left el =
         done_gives (view setup a) pairs out sound (sym cause-is ∙ none) visited
         (ev
-        ∙ ap (λ (k : ℕ). visited_to setup.n (has_bit k) (places_at (read a.counts a.bytes a.amounts))) em
-        ∙ visited_same setup.n (has_bit named) (is_named pairs) (places_at (read a.counts a.bytes a.amounts)) (λ p. length (record_of (view setup a) p))
+        ∙ ap (λ (k : ℕ). visited_to setup.n (has_bit k) (places_at a)) em
+        ∙ visited_same setup.n (has_bit named) (is_named pairs) (places_at a) (λ p. length (record_of (view setup a) p))
         (λ p h. named_bit pairs (pair_count pairs) p (omega (arith, few)))
         (λ p h. ap length (record_shown setup a p (omega (arith, few)))))
         left
@@ -175,7 +168,7 @@ module _ (setup : Setup) (a : Arrays) (few : setup.n ≤ sites) (pairs : List �
 -- what a look-up on them asks
 pub may_look_up :
     (setup : Setup) (a : Arrays) → Right a → is_sound (view setup a) ≡ true → (setup.n ≤ sites)
-    × ((p : ℕ) → p < setup.n → Postable (table_of (arrays [] a.counts a.bytes a.amounts [] [] [])) (record_in (arrays [] a.counts a.bytes a.amounts [] [] []) p))
+    × ((p : ℕ) → p < setup.n → Postable (table_of a) (record_in a p))
 may_look_up setup a right sound =
     let few = few_sites setup a right sound in
     (few, may_post_at setup a right.masks_long sound few)

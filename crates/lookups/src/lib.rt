@@ -2,11 +2,10 @@
 // Rests on lookup_pairs for pairs, on passes for the pass through a record, on books for figures, on machine for what the arrays show.
 #![tactic(auto)]
 
-ghost use Rattle.std.specs.Prelude.{ℕ, ◌*◌, ◌<◌, ◌≤◌, ◌≡◌, true, cond, List, [], length};
+ghost use Rattle.std.specs.Prelude.{ℕ, ◌*◌, ◌<◌, ◌≤◌, ◌≡◌, true, cond, length};
 ghost use Rattle.sets.specs.Masks.{has_bit};
 ghost use Rattle.books.specs.Bounds.{Postable};
 ghost use Rattle.site.specs.Sites.{sites};
-ghost use Rattle.arrays.specs.Arrays.{arrays};
 ghost use Rattle.views.specs.Views.{record_in, table_of};
 ghost use Rattle.machine.specs.View.{view};
 ghost use Rattle.machine.specs.Soundness.{is_sound};
@@ -15,15 +14,15 @@ ghost use Rattle.lookup_pairs.specs.Pairs.{visited_to};
 ghost use Rattle.lookups.specs.Gathering.{places_at, numbers_at, with_block, Gathered};
 ghost use Rattle.lookups.specs.Lookups.{looking_up};
 
-use arrays::{BYTES, COUNTS, SETS};
+use arrays::Arrays;
 use books::{FIGURES, fill};
-use lookup_pairs::{copy_lines, named_sites, pairs_refusal};
+use lookup_pairs::{copy_lines, named_sites, pairs_fit};
 use machine::laying::lay_out;
 use machine::{Answer, Board};
 use masks::has_site;
 use passes::pass_at;
-use sets::POSTINGS;
 use site::{SITES, Setup};
+use steps::Refusal;
 
 // How many numbers the books of all sites that there can be have.
 const ALL_FIGURES: usize = SITES * FIGURES;
@@ -37,20 +36,18 @@ pub struct LookedUp {
 
 // If site p is named, a pass through its record, whose books fill the 64 numbers of the figures from 64p on; how many places were visited.
 fn gather_site(
-    counts: &[usize; COUNTS],
-    bytes: &[u8; BYTES],
-    amounts: &[u32; POSTINGS],
+    board: &Arrays,
     named: u8,
     p: u8,
     figures: &mut [i64],
 ) -> usize
-    requires { (p < sites) × Postable (table_of (arrays [] counts.now bytes.now amounts.now [] [] [])) (record_in (arrays [] counts.now bytes.now amounts.now [] [] []) p) × (length figures.old ≡ 64 * sites) }
-    ensures value { result ≡ cond (has_bit named p) (places_at (arrays [] counts.now bytes.now amounts.now [] [] []) p) 0 }
-    ensures figures_after { figures.new ≡ cond (has_bit named p) (with_block figures.old p (numbers_at (arrays [] counts.now bytes.now amounts.now [] [] []) p)) figures.old }
+    requires { (p < sites) × Postable (table_of board.now) (record_in board.now p) × (length figures.old ≡ 64 * sites) }
+    ensures value { result ≡ cond (has_bit named p) (places_at board.now p) 0 }
+    ensures figures_after { figures.new ≡ cond (has_bit named p) (with_block figures.old p (numbers_at board.now p)) figures.old }
 {
     if has_site(named, p) {
         let site = p as usize;
-        let passed = pass_at(counts, bytes, amounts, site);
+        let passed = pass_at(board, site);
         let from = FIGURES * site;
         fill(passed.sheet, &mut figures[from..]);
         return passed.places;
@@ -60,52 +57,47 @@ fn gather_site(
 
 // The books of those of the first n sites that are named, each in its 64 numbers of the figures; how many places were visited.
 fn gather(
-    counts: &[usize; COUNTS],
-    bytes: &[u8; BYTES],
-    amounts: &[u32; POSTINGS],
+    board: &Arrays,
     named: u8,
     n: u8,
     figures: &mut [i64],
 ) -> usize
-    requires { (n ≤ sites) × ((p : ℕ) → p < n → Postable (table_of (arrays [] counts.now bytes.now amounts.now [] [] [])) (record_in (arrays [] counts.now bytes.now amounts.now [] [] []) p)) × (length figures.old ≡ 64 * sites) }
-    ensures value { result ≡ visited_to n (has_bit named) (places_at (arrays [] counts.now bytes.now amounts.now [] [] [])) }
-    ensures gathered { Gathered (numbers_at (arrays [] counts.now bytes.now amounts.now [] [] [])) named n figures.new }
+    requires { (n ≤ sites) × ((p : ℕ) → p < n → Postable (table_of board.now) (record_in board.now p)) × (length figures.old ≡ 64 * sites) }
+    ensures value { result ≡ visited_to n (has_bit named) (places_at board.now) }
+    ensures gathered { Gathered (numbers_at board.now) named n figures.new }
 {
     let mut visited = 0;
     for p in 0..n {
-        let places = gather_site(counts, bytes, amounts, named, p, figures);
-        visited = visited + places;
+        let places = gather_site(board, named, p, figures);
+        visited += places;
     }
     visited
 }
 
 // A look-up on a sound board at work: its table and the records of the sites named are all that it needs.
 pub fn look_up_at(
-    counts: &[usize; COUNTS],
-    bytes: &[u8; BYTES],
-    amounts: &[u32; POSTINGS],
+    board: &Arrays,
     setup: Setup,
     pairs: &[u8],
     out: &mut [i64],
 ) -> LookedUp
-    requires { (setup.n ≤ sites) × ((p : ℕ) → p < setup.n → Postable (table_of (arrays [] counts.now bytes.now amounts.now [] [] [])) (record_in (arrays [] counts.now bytes.now amounts.now [] [] []) p)) }
-    ensures { (sets masks good carried : List ℕ) → is_sound (view setup (arrays sets counts.now bytes.now amounts.now masks good carried)) ≡ true → (result.answer ≡ (looking_up (view setup (arrays sets counts.now bytes.now amounts.now masks good carried)) pairs.now out.old).answer) × (result.visited ≡ (looking_up (view setup (arrays sets counts.now bytes.now amounts.now masks good carried)) pairs.now out.old).visited) × (out.new ≡ (looking_up (view setup (arrays sets counts.now bytes.now amounts.now masks good carried)) pairs.now out.old).slice) }
+    requires { (setup.n ≤ sites) × ((p : ℕ) → p < setup.n → Postable (table_of board.now) (record_in board.now p)) }
+    ensures { is_sound (view setup board.now) ≡ true → (result.answer ≡ (looking_up (view setup board.now) pairs.now out.old).answer) × (result.visited ≡ (looking_up (view setup board.now) pairs.now out.old).visited) × (out.new ≡ (looking_up (view setup board.now) pairs.now out.old).slice) }
 {
     let n = setup.n;
-    let why = pairs_refusal(pairs, n, out.len());
-    if why != 0 {
+    if let Err(refusal) = pairs_fit(pairs, n, out.len()) {
         return LookedUp {
-            answer: Answer::Refused(why),
+            answer: Answer::Refused(refusal.number()),
             visited: 0,
         };
     }
     let named = named_sites(pairs);
     let mut figures = [0; ALL_FIGURES];
-    let visited = gather(counts, bytes, amounts, named, n, &mut figures);
+    let visited = gather(board, named, n, &mut figures);
     copy_lines(pairs, &figures[..], out);
     LookedUp {
         answer: Answer::Done,
-        visited: visited,
+        visited,
     }
 }
 
@@ -117,12 +109,8 @@ fn look_up_sound(board: Board, pairs: &[u8], out: &mut [i64]) -> LookedUp
     ensures out_after { out.new ≡ (looking_up board pairs.now out.old).slice }
 {
     let setup = board.setup;
-    let mut words = [0; SETS];
-    let mut counts = [0; COUNTS];
-    let mut bytes = [0; BYTES];
-    let mut amounts = [0; POSTINGS];
-    lay_out(&mut words, &mut counts, &mut bytes, &mut amounts, board);
-    look_up_at(&counts, &bytes, &amounts, setup, pairs, out)
+    let arrays = lay_out(board);
+    look_up_at(&arrays, setup, pairs, out)
 }
 
 // Up to 256 balances looked up on a board: four numbers for each pair of site and account, in the order given. What is refused leaves the slice as
@@ -137,7 +125,7 @@ pub fn look_up(board: Board, pairs: &[u8], out: &mut [i64]) -> LookedUp
         return look_up_sound(board, pairs, out);
     }
     LookedUp {
-        answer: Answer::Refused(6),
+        answer: Answer::Refused(Refusal::Unsound.number()),
         visited: 0,
     }
 }

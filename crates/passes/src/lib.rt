@@ -2,15 +2,14 @@
 // Rests on books for what a posting does, on views for rows, on arrays for where a record lies. Nothing is copied but the row of a line.
 #![tactic(auto)]
 
-ghost use Rattle.std.specs.Prelude.{◌<◌, ◌≡◌, [], length};
+ghost use Rattle.std.specs.Prelude.{◌<◌, ◌≡◌, length};
 ghost use Rattle.posting.specs.Records.{numbers_of};
 ghost use Rattle.books.specs.Books.{blank, books, sheet_of};
 ghost use Rattle.books.specs.Bounds.{Postable};
 ghost use Rattle.site.specs.Sites.{sites};
-ghost use Rattle.arrays.specs.Arrays.{arrays};
 ghost use Rattle.views.specs.Views.{record_in, table_of};
 
-use arrays::{BYTES, COUNTS, DELIVERED, RECORD};
+use arrays::{Arrays, DELIVERED, RECORD};
 use books::{Sheet, blank, change, net_all, trade};
 use posting::{TRADE, net_of_all};
 use sets::{POSTINGS, wide};
@@ -25,23 +24,18 @@ pub struct Passed {
 
 // A pass through the record of a site. A TRADE changes accounts a and b, a NET of every account all of them, any other posting account a; the sheet
 // is changed in place, so that it is not copied for each line.
-pub fn pass_at(
-    counts: &[usize; COUNTS],
-    bytes: &[u8; BYTES],
-    amounts: &[u32; POSTINGS],
-    site: usize,
-) -> Passed
-    requires { (site < sites) × Postable (table_of (arrays [] counts.now bytes.now amounts.now [] [] [])) (record_in (arrays [] counts.now bytes.now amounts.now [] [] []) site) }
-    ensures sheet_value { result.sheet ≡ sheet_of (books blank (table_of (arrays [] counts.now bytes.now amounts.now [] [] [])) (numbers_of (record_in (arrays [] counts.now bytes.now amounts.now [] [] []) site))) }
-    ensures places_value { result.places ≡ length (numbers_of (record_in (arrays [] counts.now bytes.now amounts.now [] [] []) site)) }
+pub fn pass_at(board: &Arrays, site: usize) -> Passed
+    requires { (site < sites) × Postable (table_of board.now) (record_in board.now site) }
+    ensures sheet_value { result.sheet ≡ sheet_of (books blank (table_of board.now) (numbers_of (record_in board.now site))) }
+    ensures places_value { result.places ≡ length (numbers_of (record_in board.now site)) }
 {
     let mut sheet = blank();
     let mut places = 0;
-    let count = counts[DELIVERED + site];
+    let count = board.counts[DELIVERED + site];
     let from = RECORD + site * POSTINGS;
     for i in 0..count {
-        let m = wide(bytes[from + i]);
-        let p = row_of(bytes, amounts, m);
+        let m = wide(board.bytes[from + i]);
+        let p = row_of(board, m);
         if p.kind == TRADE {
             let a = wide(p.a);
             let s = sheet.accounts[a];
@@ -59,7 +53,7 @@ pub fn pass_at(
             let t = change(p, p.a, s);
             sheet.accounts[k] = t;
         }
-        places = places + 1;
+        places += 1;
     }
     Passed { sheet, places }
 }

@@ -11,16 +11,14 @@ ghost use Rattle.runfile.specs.Program.{StaysSound};
 ghost use Rattle.run_lookups.specs.Looked.{count_or, looked_on, looked_file};
 ghost use Rattle.run_lookups.specs.Changed.{looked_changed};
 
-use arrays::{BYTES, COUNTS, SETS};
+use arrays::Arrays;
 use by_value::changed::board_after;
 use counted::NO_COUNT;
 use decoder::file::{EVENTS, event_count};
-use flight::{LOADS, MASKS, PAIRS};
 use image::changed;
 use lookups::{LookedUp, look_up, look_up_at};
 use runfile::begin::begin;
 use runfile::run::{refusal_of, run_events};
-use sets::POSTINGS;
 use site::Setup;
 
 // A count, or a refusal: 2^64 less its number, so that of 1 it is NO_COUNT.
@@ -37,9 +35,7 @@ fn count_or(why: u8, count: usize) -> u64
 fn answer_of(looked: LookedUp) -> u64
     ensures { result ≡ count_or (refusal_of looked.answer) looked.visited }
 {
-    let answer = looked.answer;
-    let why = refusal_of(answer);
-    count_or(why, looked.visited)
+    count_or(refusal_of(looked.answer), looked.visited)
 }
 
 // The events of a file from the board of its start, and a look-up on the board that they leave.
@@ -48,30 +44,11 @@ fn look_up_after(input: &[u8], setup: Setup, pairs: &[u8], out: &mut [i64]) -> u
     ensures value { result ≡ (looked_on pairs.now out.old (running (fresh_board setup) (calls_of input.now))).count }
     ensures out_after { out.new ≡ (looked_on pairs.now out.old (running (fresh_board setup) (calls_of input.now))).slice }
 {
-    let mut words = [0; SETS];
-    let mut counts = [0; COUNTS];
-    let mut bytes = [0; BYTES];
-    let mut amounts = [0; POSTINGS];
-    let mut masks = [0; MASKS];
-    let mut good = [0; PAIRS];
-    let mut carried = [0; LOADS];
+    let mut board = Arrays::empty();
     let mut numbers = [0; EVENTS];
     let events = event_count(input);
-    run_events(
-        &mut words,
-        &mut counts,
-        &mut bytes,
-        &mut amounts,
-        &mut masks,
-        &mut good,
-        &mut carried,
-        setup,
-        input,
-        0,
-        events,
-        &mut numbers,
-    );
-    let looked = look_up_at(&counts, &bytes, &amounts, setup, pairs, out);
+    run_events(&mut board, setup, input, 0, events, &mut numbers);
+    let looked = look_up_at(&board, setup, pairs, out);
     answer_of(looked)
 }
 
@@ -81,11 +58,10 @@ pub fn run_lookup(input: &[u8], pairs: &[u8], out: &mut [i64]) -> u64
     ensures value { result ≡ (looked_file input.now pairs.now out.old).count }
     ensures out_after { out.new ≡ (looked_file input.now pairs.now out.old).slice }
 {
-    let begun = begin(input);
-    if begun.why != 0 {
-        return count_or(begun.why, 0);
+    match begin(input) {
+        Ok(setup) => look_up_after(input, setup, pairs, out),
+        Err(refusal) => count_or(refusal.number(), 0),
     }
-    look_up_after(input, begun.setup, pairs, out)
 }
 
 // What run_lookup does, by value on the board that the file leaves with the number at `place` of its row replaced by `value`, which 6 may refuse.
@@ -93,12 +69,13 @@ pub fn lookup_changed(input: &[u8], place: u64, value: u64, pairs: &[u8], out: &
     ensures value { result ≡ (looked_changed input.now place value pairs.now out.old).count }
     ensures out_after { out.new ≡ (looked_changed input.now place value pairs.now out.old).slice }
 {
-    let begun = begin(input);
-    if begun.why != 0 {
-        return count_or(begun.why, 0);
+    match begin(input) {
+        Ok(setup) => {
+            let left = board_after(input, setup);
+            let board = changed(left, place as usize, value);
+            let looked = look_up(board, pairs, out);
+            answer_of(looked)
+        }
+        Err(refusal) => count_or(refusal.number(), 0),
     }
-    let left = board_after(input, begun.setup);
-    let board = changed(left, place as usize, value);
-    let looked = look_up(board, pairs, out);
-    answer_of(looked)
 }

@@ -17,7 +17,7 @@ use Rattle.lookups.proofs.gather.Goals as goal
 use Rattle.lookups.proofs.gather.Goals.{After-figures-1, Start}
 
 abbrev on-arrays : Start → Arrays
-on-arrays c = arrays [] c.args.counts.now c.args.bytes.now c.args.amounts.now [] [] []
+on-arrays c = c.args.board.now
 
 pub loop-p-init : goal.loop-p-init
 unfolding visited_to

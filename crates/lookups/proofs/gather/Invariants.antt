@@ -6,7 +6,6 @@ use mathlib.Core.List.{[]}
 use lib.ListN.{length}
 use Rattle.sets.specs.Masks.{has_bit}
 use Rattle.site.specs.Sites.{sites}
-use Rattle.arrays.specs.Arrays.{arrays}
 use Rattle.lookup_pairs.specs.Pairs.{visited_to}
 use Rattle.lookups.specs.Gathering.{places_at, numbers_at, Gathered}
 use Rattle.lookups.proofs.gather.Given as goal
@@ -14,6 +13,6 @@ use Rattle.lookups.proofs.gather.Given as goal
 abbrev pub invariant-loop-p : goal.invariant-loop-p
 invariant-loop-p l = (l.p ≤ l.n)
     × (length l.figures ≡ 64 * sites)
-    × (l.visited ≡ visited_to l.p (has_bit l.named) (places_at (arrays [] l.counts l.bytes l.amounts [] [] [])))
+    × (l.visited ≡ visited_to l.p (has_bit l.named) (places_at l.board))
     × (l.visited ≤ 256 * l.p)
-    × Gathered (numbers_at (arrays [] l.counts l.bytes l.amounts [] [] [])) l.named l.p l.figures
+    × Gathered (numbers_at l.board) l.named l.p l.figures

@@ -11,7 +11,6 @@ use Rattle.sets.specs.Masks.{has_bit}
 use Rattle.posting.specs.Records.{numbers_of}
 use Rattle.books.specs.Books.{blank, books}
 use Rattle.books.proofs.Blocks.{part_all}
-use Rattle.arrays.specs.Arrays.{arrays}
 use Rattle.views.specs.Views.{record_in, table_of}
 use Rattle.lookups.proofs.Blocks.{sheet_filled}
 use Rattle.lookups.proofs.gather_site.Goals as goal
@@ -32,7 +31,7 @@ pub returns-then-has_site : goal.returns-then-has_site
 returns-then-has_site c =
     let args = c.args in
     let so : has_bit args.named args.p ≡ true = sym c.has_site.ensures ∙ c.if-has_site.true in
-    let a = arrays [] args.counts.now args.bytes.now args.amounts.now [] [] [] in record {
+    let a = args.board.now in record {
       value = rw so c.pass_at-passed.ensures.places_value;
       figures_after = rw so (sheet_filled (books blank (table_of a) (numbers_of (record_in a args.p))) c.pass_at-passed.result.sheet c.pass_at-passed.ensures.sheet_value args.p args.figures.now
           c.fill.new.out c.fill.ensures);

@@ -17,4 +17,4 @@ pub returns : goal.returns
 returns c =
     let args = c.args in
     let refused = unsound_gives args.board args.pairs.now args.out.now (sym c.is_sound.ensures ∙ c.if-is_sound.false) in
-    record { answer_value = refused.0; visited_value = refused.1; out_after = refused.2; answer_value_2 = ap answer_of refused.0 }
+    rw c.number.ensures (record { answer_value = refused.0; visited_value = refused.1; out_after = refused.2; answer_value_2 = ap answer_of refused.0 })

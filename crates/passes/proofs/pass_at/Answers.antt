@@ -14,7 +14,6 @@ use Rattle.books.specs.declared.Sheet.{Sheet}
 use Rattle.books.specs.Bounds.{Postable}
 use Rattle.books.proofs.Sheets.{Line, line_roomy, line_nets_all}
 use Rattle.arrays.specs.declared.Arrays.{Arrays}
-use Rattle.arrays.specs.Arrays.{arrays}
 use Rattle.views.specs.Views.{record_in, table_of}
 use Rattle.passes.proofs.RecordLines.{books_to, count_few, places_are, below, line_here, trade_accounts, trade_room_a, trade_room_b, trade_line, one_account, one_room, one_line}
 use Rattle.passes.proofs.pass_at.Goals as goal
@@ -23,7 +22,7 @@ use Rattle.passes.proofs.pass_at.Goals.{After-row_of-p, Start, then-p-eq-TRADE, 
 -- the board at work, and that its record may be posted
 module _ (c : Start) where
   abbrev a : Arrays
-  a = arrays [] c.args.counts.now c.args.bytes.now c.args.amounts.now [] [] []
+  a = c.args.board.now
 
   abbrev site : ℕ
   site = c.args.site
@@ -34,7 +33,7 @@ module _ (c : Start) where
 -- a line, once its row is read
 module _ (c : After-row_of-p) where
   abbrev line_a : Arrays
-  line_a = arrays [] c.args.counts.now c.args.bytes.now c.args.amounts.now [] [] []
+  line_a = c.args.board.now
 
   abbrev line_site : ℕ
   line_site = c.args.site
@@ -56,7 +55,7 @@ module _ (c : After-row_of-p) where
   here = c.loop-i-test.true
 
   on_line : Line (books_to line_a line_site line_postable i) posting (books_to line_a line_site line_postable (i + 1)) sheet
-  on_line = line_here line_a line_site line_postable i here c.wide-m.result c.wide-m.ensures posting (c.row_of-p.ensures [] c.args.counts.now [] [] []) sheet c.loop-i.invariant.1
+  on_line = line_here line_a line_site line_postable i here c.wide-m.result c.wide-m.ensures posting c.row_of-p.ensures sheet c.loop-i.invariant.1
 
 pub loop-i-init : goal.loop-i-init
 unfolding books
@@ -67,9 +66,9 @@ overflow_add-from-in-loop-i c =
     let at = (goal.at.overflow_add-from-in-loop-i c).Start in
     record { fits = omega (arith, count_few (a at) (site at) (postable at), c.loop-i-test.true, c.requires.0) }
 
-pub bounds-bytes-from : goal.bounds-bytes-from
-bounds-bytes-from c =
-    let at = (goal.at.bounds-bytes-from c).Start in
+pub bounds-board-from : goal.bounds-board-from
+bounds-board-from c =
+    let at = (goal.at.bounds-board-from c).Start in
     omega (arith, count_few (a at) (site at) (postable at), c.loop-i-test.true, c.requires.0)
 
 pub row_of-p-requires : goal.row_of-p-requires

@@ -5,11 +5,10 @@ use mathlib.Core.List.{[]}
 use Prim.Native.Nat.{◌≤◌, ◌-◌}
 use lib.ListN.{take}
 use Rattle.books.specs.Books.{blank, books, sheet_of}
-use Rattle.arrays.specs.Arrays.{arrays}
 use Rattle.views.specs.Views.{record_in, table_of}
 use Rattle.passes.proofs.pass_at.Given as goal
 
 abbrev pub invariant-loop-i : goal.invariant-loop-i
 invariant-loop-i l = (l.i ≤ l.count)
-    × (l.sheet ≡ sheet_of (books blank (table_of (arrays [] l.counts l.bytes l.amounts [] [] [])) (take l.i (record_in (arrays [] l.counts l.bytes l.amounts [] [] []) l.site).numbers)))
+    × (l.sheet ≡ sheet_of (books blank (table_of l.board) (take l.i (record_in l.board l.site).numbers)))
     × (l.places ≡ l.i)

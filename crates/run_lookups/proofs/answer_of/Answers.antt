@@ -6,4 +6,4 @@ use Rattle.run_lookups.specs.Looked.{count_or}
 use Rattle.run_lookups.proofs.answer_of.Goals as goal
 
 pub returns : goal.returns
-returns c = c.count_or.ensures ∙ ap (λ (why : ℕ). count_or why c.args.looked.visited) c.refusal_of-why.ensures
+returns c = c.count_or.ensures ∙ ap (λ (why : ℕ). count_or why c.args.looked.visited) c.refusal_of.ensures

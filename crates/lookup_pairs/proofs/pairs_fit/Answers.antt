@@ -1,8 +1,8 @@
--- `pairs_refusal` meets its contract: a return for each cause of 7 and 18.
+-- `pairs_fit` meets its contract: a return for each cause of 7 and 18.
 -- Assumes nothing.
 use mathlib.Core.Path.{sym, ◌∙◌}
 use Rattle.lookup_pairs.proofs.Refusals.{no_site_lem, too_many, no_account, no_room, none_applies}
-use Rattle.lookup_pairs.proofs.pairs_refusal.Goals as goal
+use Rattle.lookup_pairs.proofs.pairs_fit.Goals as goal
 
 pub returns-then-some_past : goal.returns-then-some_past
 returns-then-some_past c =
