@@ -10,15 +10,15 @@ use mathlib.Core.Bool.{Bool, true, false, cond, ◌&&◌}
 use mathlib.Core.List.{List, [], ◌∷◌}
 use native.Mathlib.Omega.{arith}
 use native.Mathlib.Numerals.{add-one}
-use lib.Dec.{eqb, ltb, leb}
+use lib.Dec.{eqb, ltb}
 use lib.ListN.{length, get_or, take, drop, length-drop, drop_of_length-le}
 use lib.Seq.{drop-cons, take_all}
-use borrow.Author.Tests.{lt-ltb, le-ltb, le-leb, lt-leb, ltb-false, leb-true}
+use borrow.Author.Tests.{lt-ltb, le-ltb, le-leb, lt-leb, ltb-false}
 use Rattle.std.specs.Prelude.{Some, None, position}
 use Rattle.std.specs.List.{position_or_len}
 use Rattle.std.proofs.lemmas.List.Recursion.{is_position_or_len}
 use Rattle.broadcast.specs.Lists.{mem}
-use Rattle.broadcast.proofs.Tests.{test, same_or, eqb_yes, eqb_no, and_l, and_r}
+use Rattle.broadcast.proofs.Tests.{test, same_or, eqb_yes, eqb_no}
 use Rattle.audit_rule.specs.Audit.{up_to}
 use Rattle.audit_rule.specs.Handed.{place_of}
 use Rattle.audit_pair.proofs.Places.{place_mem, place_at_most}
@@ -110,14 +110,6 @@ module _ (most value : ℕ) (l : List ℕ) (i : ℕ) (more : i < length l) where
 pub scan_end : (most value : ℕ) (l : List ℕ) (i : ℕ) → length l ≤ i → scanned most value (drop i l) ≡ value
 unfolding scanned
 scan_end most value l i h = rw (drop_of_length-le l h)
-
-pub is_digit_bounds : (b : ℕ) → is_digit b ≡ true → (48 ≤ b) × (b ≤ 57)
-unfolding is_digit
-is_digit_bounds b e = (leb-true 48 b (and_l (leb 48 b) (leb b 57) e), leb-true b 57 (and_r (leb 48 b) (leb b 57) e))
-
-pub number_none : (most : ℕ) (l : List ℕ) → badly_begun l ≡ true → number_of most l ≡ no_number
-unfolding number_of
-number_none most l e = rw e
 
 pub number_scanned : (most : ℕ) (l : List ℕ) → badly_begun l ≡ false → number_of most l ≡ scanned most 0 l
 unfolding number_of

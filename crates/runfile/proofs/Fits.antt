@@ -26,7 +26,7 @@ use Rattle.machine.specs.Runs.{taking, running, answers, is_quiet}
 use Rattle.machine.proofs.SoundFacts.{RecordSound}
 use Rattle.invariants.proofs.Reached.{Good, good_sites}
 use Rattle.invariants.proofs.Start.{reached_good}
-use Rattle.printer.specs.declared.Printed.TheVariants.{Written}
+use Rattle.std.specs.Prelude.{Some}
 use Rattle.printer.specs.Writing.{slice_printed, answer_printed}
 use Rattle.printer.specs.Output.{decimal, newline, refused_line}
 use Rattle.printer.proofs.Lengths.{Small, Recorded, Shown, small_take, three_digits, printed_length}
@@ -150,5 +150,5 @@ output_fits input =
 
 -- So into the buffer every output is written, and whole.
 pub all_written : (input buffer : List ℕ) → length buffer ≡ 65_536
-    → (answer_printed (printed input) buffer ≡ Written (length (printed input))) × (slice_printed (printed input) buffer ≡ printed input ++ drop (length (printed input)) buffer)
+    → (answer_printed (printed input) buffer ≡ Some (length (printed input))) × (slice_printed (printed input) buffer ≡ printed input ++ drop (length (printed input)) buffer)
 all_written input buffer e = fits_written (printed input) buffer (omega (arith, output_fits input, e))

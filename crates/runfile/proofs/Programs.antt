@@ -24,7 +24,7 @@ use Rattle.machine.specs.Runs.{accepted, running, is_quiet}
 use Rattle.invariants.proofs.Reached.{GoodIf}
 use Rattle.invariants.proofs.Start.{reached_good, reached_sound}
 use Rattle.printer.specs.declared.Ended.{Ended}
-use Rattle.printer.specs.declared.Printed.{Printed}
+use Rattle.std.specs.Prelude.{Option}
 use Rattle.decoder.specs.RunFile.{setup_of, header_ok, length_ok, events_ok, event_count, event_limit, well_formed, calls_of}
 use Rattle.printer.specs.Output.{refused_line, printed_of}
 use Rattle.printer.proofs.Writing.{Prints}
@@ -54,7 +54,7 @@ unfolding printed_run
 run_printed b last calls numbers quiet ended el en eq ee = rw (ee, eq, el, en)
 
 -- a text printed, by another name
-pub printed_as : {a b t : List ℕ} {x : Printed} (s : List ℕ) → a ≡ b → Prints a s x t → Prints b s x t
+pub printed_as : {a b t : List ℕ} {x : Option ℕ} (s : List ℕ) → a ≡ b → Prints a s x t → Prints b s x t
 printed_as s e (h, (k, l)) = (rw e at h, (rw e at k, rw e at l))
 
 -- ---- a start

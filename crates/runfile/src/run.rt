@@ -18,7 +18,6 @@ use arrays::{BYTES, COUNTS, SETS};
 use decoder::file::{EVENTS, event_count};
 use flight::{LOADS, MASKS, PAIRS};
 use machine::Answer;
-use printer::Printed;
 use printer::print::{print_refused, print_run};
 use sets::POSTINGS;
 use site::Setup;
@@ -70,7 +69,7 @@ pub fn run_events(
 }
 
 // The events of a file from the board of its start, printed.
-fn run_from(input: &[u8], setup: Setup, out: &mut [u8]) -> Printed
+fn run_from(input: &[u8], setup: Setup, out: &mut [u8]) -> Option<usize>
     requires { StaysSound (fresh_board setup) × (event_count input.now ≤ event_limit) }
     ensures value { result ≡ answer_printed (printed_run (fresh_board setup) (calls_of input.now)) out.old }
     ensures out_after { out.new ≡ slice_printed (printed_run (fresh_board setup) (calls_of input.now)) out.old }
@@ -105,7 +104,7 @@ fn run_from(input: &[u8], setup: Setup, out: &mut [u8]) -> Printed
 }
 
 // A run file, run and printed: of any input what `board` prints, into the slice if it has room for it.
-pub fn run_file(input: &[u8], out: &mut [u8]) -> Printed
+pub fn run_file(input: &[u8], out: &mut [u8]) -> Option<usize>
     ensures value { result ≡ answer_printed (printed input.now) out.old }
     ensures out_after { out.new ≡ slice_printed (printed input.now) out.old }
     ensures result_value { written_of result ≡ written_of (answer_printed (printed input.now) out.old) }

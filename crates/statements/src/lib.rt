@@ -20,7 +20,6 @@ use books::FIGURES;
 use decoder::file::{EVENTS, event_count};
 use drain::drain_events;
 use flight::{LOADS, MASKS, PAIRS};
-use printer::Printed;
 use printer::print::print_refused;
 use runfile::begin::begin;
 use runfile::run::{refusal_of, run_events};
@@ -98,7 +97,7 @@ pub fn run_and_drain(input: &[u8], setup: Setup, limit: u64, out: &mut [i64]) ->
 }
 
 // The events of a file from the board of its start, then a drain, and the statement of the board that it leaves, printed.
-fn state_from(input: &[u8], setup: Setup, out: &mut [u8]) -> Printed
+fn state_from(input: &[u8], setup: Setup, out: &mut [u8]) -> Option<usize>
     requires { StaysSound (fresh_board setup) × GoodIf false (fresh_board setup) × (event_count input.now ≤ event_limit) }
     ensures value { result ≡ answer_printed (stated_run (fresh_board setup) (calls_of input.now)) out.old }
     ensures out_after { out.new ≡ slice_printed (stated_run (fresh_board setup) (calls_of input.now)) out.old }
@@ -112,7 +111,7 @@ fn state_from(input: &[u8], setup: Setup, out: &mut [u8]) -> Printed
 }
 
 // A run file, run, drained and stated: of any input what `statement` prints, into the slice if it has room for it.
-pub fn statement(input: &[u8], out: &mut [u8]) -> Printed
+pub fn statement(input: &[u8], out: &mut [u8]) -> Option<usize>
     ensures value { result ≡ answer_printed (stated input.now) out.old }
     ensures out_after { out.new ≡ slice_printed (stated input.now) out.old }
     ensures result_value { written_of result ≡ written_of (answer_printed (stated input.now) out.old) }

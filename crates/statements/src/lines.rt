@@ -11,7 +11,6 @@ use amounts::put_signed;
 use books::Figures;
 use masks::has_site;
 use posting::ACCOUNTS;
-use printer::Printed;
 use printer::print::{NEWLINE, put, put_number, put_state, put_text};
 use sets::wide;
 
@@ -118,15 +117,15 @@ fn statement_lines(figures: &[i64], n: u8, down: u8, at: usize, out: &mut [u8]) 
 }
 
 // The statement of the figures of n sites, printed. The lines are counted first, on no bytes of the slice.
-pub fn print_statement(figures: &[i64], n: u8, down: u8, out: &mut [u8]) -> Printed
+pub fn print_statement(figures: &[i64], n: u8, down: u8, out: &mut [u8]) -> Option<usize>
     ensures value { result ≡ answer_printed (statement_text figures.now n down) out.old }
     ensures out_after { out.new ≡ slice_printed (statement_text figures.now n down) out.old }
     ensures result_value { written_of result ≡ written_of (answer_printed (statement_text figures.now n down) out.old) }
 {
     let needed = statement_lines(figures, n, down, 0, &mut out[0..0]);
     if out.len() < needed {
-        return Printed::Short;
+        return None;
     }
     let end = statement_lines(figures, n, down, 0, out);
-    Printed::Written(end)
+    Some(end)
 }
