@@ -13,10 +13,7 @@ const MOST: usize = 1_000;
 fn is_end(rt: &impl Env, number: usize) -> bool {
     let mut word = [0; 1];
     let n = audit_program::argument(rt, number, &mut word);
-    if n != 1 {
-        return false;
-    }
-    word[0] == b'+'
+    n == 1 && word[0] == b'+'
 }
 
 // Where the set ends that begins with an argument: at the next `+`, or behind the last argument.
@@ -24,14 +21,7 @@ fn end_of(rt: &impl Env, first: usize, count: usize) -> usize
     requires { (first ≤ count) × (count ≤ 1_000) }
     ensures { (first ≤ result) × (result ≤ count) }
 {
-    let mut i = first;
-    while i < count {
-        if is_end(rt, i) {
-            return i;
-        }
-        i += 1;
-    }
-    i
+    (first..count).find(|&i| is_end(rt, i)).unwrap_or(count)
 }
 
 // All sets.
@@ -48,8 +38,7 @@ fn audit_sets(rt: &(impl Files + Env + Print + Eprint), count: usize)
 
 fn main(rt: HostRuntime) {
     let count = audit_program::argument_count(&rt, MOST + 1);
-    if MOST < count {
-        return;
+    if count <= MOST {
+        audit_sets(&rt, count);
     }
-    audit_sets(&rt, count);
 }

@@ -1,26 +1,29 @@
--- The laws behind the functions that read a line: parts up to a byte and past it, digits scanned from a place on, and words compared.
+-- The laws behind the functions that read a line: parts up to a byte and past it, digits scanned from a place on, words compared, and fields put together.
 -- Rests on Entries, on audit_pair's Places and on the kit's lists. Assumes nothing.
-use Prim.Native.Nat.{ℕ, zero, suc, ◌+◌, ◌*◌, ◌-◌, ◌<◌, ◌≤◌}
+use Rattle.audit_files.specs.declared.Entry.TheVariants.{Number, Whole}
+use Rattle.std.proofs.lemmas.Bool.Decides.{nat_tests}
+use lib.Pointwise.{pointwise}
+use Prim.Native.Nat.{ℕ, suc, ◌+◌, ◌*◌, ◌-◌, ◌<◌, ◌≤◌}
 use mathlib.Core.Path.{◌≡◌, refl, sym, ap, ◌∙◌}
-use mathlib.Core.Logic.{inl, inr, ◌⊎◌, ◌≢◌}
-use mathlib.Core.Bool.{Bool, true, false, cond, not, ◌&&◌, ◌||◌}
+use mathlib.Core.Logic.{inl, inr, ◌≢◌}
+use mathlib.Core.Bool.{Bool, true, false, cond, ◌&&◌}
 use mathlib.Core.List.{List, [], ◌∷◌}
 use native.Mathlib.Omega.{arith}
 use native.Mathlib.Numerals.{add-one}
-use lib.Dec.{eqb, ltb, leb}
+use lib.Dec.{eqb, ltb}
 use lib.ListN.{length, get_or, take, drop, length-drop, drop_of_length-le}
-use lib.Seq.{drop-cons, drop-drop, take_all}
-use borrow.Author.Tests.{lt-ltb, le-ltb, le-leb, lt-leb, ltb-true, ltb-false, leb-true}
+use lib.Seq.{drop-cons, take_all}
+use borrow.Author.Tests.{lt-ltb, le-ltb, le-leb, lt-leb, ltb-false}
+use Rattle.std.specs.Prelude.{Some, None, position}
+use Rattle.std.specs.List.{position_or_len}
+use Rattle.std.proofs.lemmas.List.Recursion.{is_position_or_len}
 use Rattle.broadcast.specs.Lists.{mem}
-use Rattle.broadcast.proofs.Tests.{test, same_or, eqb_yes, eqb_no, and_l, and_r}
+use Rattle.broadcast.proofs.Tests.{test, same_or, eqb_yes, eqb_no}
 use Rattle.audit_rule.specs.Audit.{up_to}
 use Rattle.audit_rule.specs.Handed.{place_of}
-use Rattle.audit_pair.proofs.Places.{place_mem}
-use Rattle.audit_files.specs.declared.Entry.{Entry}
-use Rattle.amounts.specs.Amounts.{text}
+use Rattle.audit_pair.proofs.Places.{place_mem, place_at_most}
 use Rattle.audit_files.specs.Words.{same}
-use Rattle.audit_files.specs.Entries.{past, comma, is_digit, is_letter, badly_begun, number_of, kind_of, scanned, no_number, digit_zero, most_number, most_account, most_amount, alone, whole, fields_after, entry_of}
-use Rattle.audit_files.specs.Steps.{Bounded}
+use Rattle.audit_files.specs.Entries.{past, comma, is_digit, badly_begun, number_of, kind_of, scanned, no_number, digit_zero, most_number, most_account, most_amount, alone, whole, fields_after, entry_of, malformed}
 
 -- ---- parts of a text
 
@@ -32,40 +35,56 @@ take_place x (z ∷ l) = elim (same_or z x) [
   | inr d ↦ rw (eqb_no z x d) (ap (λ (r : List ℕ). z ∷ r) (take_place x l))
 ]
 
-module _ (x from to : ℕ) (l : List ℕ) (to_is : to ≡ from + place_of x (drop from l)) where
-  -- the part ahead of what was found
-  pub part_is : take (to - from) (drop from l) ≡ up_to x (drop from l)
-  part_is =
-      let e : to - from ≡ place_of x (drop from l) = omega (arith, to_is) in
-      rw e (take_place x (drop from l))
+-- the part ahead of a byte is all of the text where the text lacks the byte
+pub mem_none : (x : ℕ) (l : List ℕ) → length (up_to x l) ≡ length l → mem x l ≡ false
+unfolding place_of
+mem_none x l e = place_mem x l ∙ le-ltb (length (up_to x l)) (length l) (omega (arith, e))
 
-  -- and the part behind it
-  pub past_is : (next : ℕ) → from ≤ length l → next ≡ cond (ltb to (length l)) (to + 1) (length l) → drop next l ≡ past x (drop from l)
-  unfolding past
-  past_is next most next_is = elim (test (ltb to (length l))) [
-    | inl t ↦
-        let e : next ≡ to + 1 = next_is ∙ rw t refl in
-        let n : next ≡ from + suc (place_of x (drop from l)) = omega (arith, e, to_is) in
-        rw n (sym (drop-drop (suc (place_of x (drop from l))) from l))
-    | inr f ↦
-        let e : next ≡ length l = next_is ∙ rw f refl in
-        let h : length l ≤ to = ltb-false to (length l) f in
-        let n : length l ≤ next = omega (arith, e) in
-        let d : length (drop from l) ≡ length l - from = length-drop from l in
-        let m : length (drop from l) ≤ suc (place_of x (drop from l)) = omega (arith, d, h, to_is) in
-        drop_of_length-le l n ∙ sym (drop_of_length-le (drop from l) m)
+pub mem_some : (x : ℕ) (l : List ℕ) → length (up_to x l) ≢ length l → mem x l ≡ true
+unfolding place_of
+mem_some x l d = let h = place_at_most x l in place_mem x l ∙ lt-ltb (length (up_to x l)) (length l) (omega (arith, h, d))
+
+-- what is left from a place on
+rest_is : (from : ℕ) (l : List ℕ) → take (length l - from) (drop from l) ≡ drop from l
+rest_is from l = let n = length-drop from l in let h : length (drop from l) ≤ length l - from = omega (arith, n) in take_all (length l - from) (drop from l) h
+
+position_is : (x : ℕ) (l : List ℕ) → place_of x l ≡ position_or_len (λ y. eqb y x) l
+unfolding place_of
+position_is x l = is_position_or_len (λ m. length (up_to x m)) (λ y. eqb y x) refl (λ z m. step z m (eqb z x)) l
+  where
+    step : (z : ℕ) (m : List ℕ) (b : Bool) → length (cond b [] (z ∷ up_to x m)) ≡ cond b 0 (1 + length (up_to x m))
+    step z m true = refl
+    step z m false = omega arith
+
+module _ (x : ℕ) (l : List ℕ) where
+  place_some : (i : ℕ) → Some i ≡ position (λ y. eqb y x) l → i ≡ place_of x l
+  place_some i e = elim (test (ltb (position_or_len (λ y. eqb y x) l) (length l))) [
+    | inl t ↦ let f : Some i ≡ Some (position_or_len (λ y. eqb y x) l) = rw t at e in
+        let p = position_is x l in
+        cc
+    | inr f ↦ let g = rw f at e in absurd (cc)
   ]
 
-pub behind_most : (found end next : ℕ) → found ≤ end → next ≡ cond (ltb found end) (found + 1) end → next ≤ end
-behind_most found end next h next_is = elim (test (ltb found end)) [
-  | inl t ↦
-      let e : next ≡ found + 1 = next_is ∙ rw t refl in
-      let k : found < end = ltb-true found end t in
-      omega (arith, e, k)
-  | inr f ↦
-      let e : next ≡ end = next_is ∙ rw f refl in
-      omega (arith, e)
-]
+  place_none : None ≡ position (λ y. eqb y x) l → length l ≤ place_of x l
+  place_none e = elim (test (ltb (position_or_len (λ y. eqb y x) l) (length l))) [
+    | inl t ↦ let g : None ≡ Some (position_or_len (λ y. eqb y x) l) = rw t at e in absurd (cc)
+    | inr f ↦ let p = position_is x l in omega (arith, p, ltb-false _ _ f)
+  ]
+
+  -- the parts of a text around the place where a search found the byte
+  pub found_ahead : (i : ℕ) → Some i ≡ position (λ y. eqb y x) l → take i l ≡ up_to x l
+  found_ahead i e = rw (place_some i e) (take_place x l)
+
+  pub found_behind : (i : ℕ) → Some i ≡ position (λ y. eqb y x) l → take (length l - (i + 1)) (drop (i + 1) l) ≡ past x l
+  unfolding past
+  found_behind i e = rest_is (i + 1) l ∙ rw (add-one, place_some i e) refl
+
+  pub none_ahead : None ≡ position (λ y. eqb y x) l → l ≡ up_to x l
+  none_ahead e = sym (take_all (place_of x l) l (place_none e)) ∙ take_place x l
+
+  pub none_behind : None ≡ position (λ y. eqb y x) l → [] ≡ past x l
+  unfolding past
+  none_behind e = let h = place_none e in let k : length l ≤ suc (place_of x l) = omega (arith, h) in sym (drop_of_length-le l k)
 
 -- ---- digits
 
@@ -92,121 +111,78 @@ pub scan_end : (most value : ℕ) (l : List ℕ) (i : ℕ) → length l ≤ i �
 unfolding scanned
 scan_end most value l i h = rw (drop_of_length-le l h)
 
-pub is_digit_bounds : (b : ℕ) → is_digit b ≡ true → (48 ≤ b) × (b ≤ 57)
-unfolding is_digit
-is_digit_bounds b e = (leb-true 48 b (and_l (leb 48 b) (leb b 57) e), leb-true b 57 (and_r (leb 48 b) (leb b 57) e))
-
-pub number_none : (most : ℕ) (l : List ℕ) → badly_begun l ≡ true → number_of most l ≡ no_number
-unfolding number_of
-number_none most l e = rw e
-
 pub number_scanned : (most : ℕ) (l : List ℕ) → badly_begun l ≡ false → number_of most l ≡ scanned most 0 l
 unfolding number_of
 number_scanned most l e = rw e
 
-pub bounded_below : (most n : ℕ) → Bounded most n → n ≢ no_number → n ≤ most
-bounded_below most n (inl h) d = h
-bounded_below most n (inr e) d = absurd (d e)
+-- ---- kinds
 
--- ---- letters
+-- a word, as it is compared
+pub same_is : (l m : List ℕ) → pointwise eqb l m ≡ same l m
+same_is [] [] = refl
+same_is [] (y ∷ m) = refl
+same_is (x ∷ l) [] = refl
+same_is (x ∷ l) (y ∷ m) = ap (λ (b : Bool). eqb x y && b) (same_is l m)
 
-module _ (b : ℕ) where
-  pub letter_low : b < 65 → false ≡ is_letter b
-  unfolding is_letter
-  letter_low h = rw (lt-leb 65 b h, lt-leb 97 b (omega (arith, h)))
-
-  pub letter_upper : 65 ≤ b → b ≤ 90 → true ≡ is_letter b
-  unfolding is_letter
-  letter_upper h k = rw (le-leb 65 b h, le-leb b 90 k)
-
-  pub letter_between : 90 < b → b < 97 → false ≡ is_letter b
-  unfolding is_letter
-  letter_between h k = rw (le-leb 65 b (omega (arith, h)), lt-leb b 90 h, lt-leb 97 b k)
-
-  pub letter_high : 97 ≤ b → leb b 122 ≡ is_letter b
-  unfolding is_letter
-  letter_high h = rw (le-leb 65 b (omega (arith, h)), lt-leb b 90 (omega (arith, h)), le-leb 97 b h)
-
--- ---- words
-
-pub same_longer : (l m : List ℕ) → length l ≢ length m → same l m ≡ false
-same_longer [] [] d = absurd (d refl)
-same_longer [] (y ∷ m) d = refl
-same_longer (x ∷ l) [] d = refl
-same_longer (x ∷ l) (y ∷ m) d = elim (test (eqb x y)) [
-  | inl t ↦ rw t (same_longer l m (λ e. d (ap suc e)))
-  | inr f ↦ rw f
-]
-
-module _ (l m : List ℕ) (i : ℕ) (in-l : i < length l) (in-m : i < length m) where
-  pub same_here : get_or l i 0 ≢ get_or m i 0 → same (drop i l) (drop i m) ≡ false
-  same_here d = rw (drop-cons l i 0 in-l, drop-cons m i 0 in-m, eqb_no (get_or l i 0) (get_or m i 0) d)
-
-  pub same_next : get_or l i 0 ≡ get_or m i 0 → same (drop i l) (drop i m) ≡ same (drop (suc i) l) (drop (suc i) m)
-  same_next e = rw (drop-cons l i 0 in-l, drop-cons m i 0 in-m, eqb_yes (get_or l i 0) (get_or m i 0) e)
-
-pub same_end : (l m : List ℕ) (i : ℕ) → length l ≤ i → length m ≤ i → same (drop i l) (drop i m) ≡ true
-same_end l m i h k = rw (drop_of_length-le l h, drop_of_length-le m k)
-
-module _ (l : List ℕ) where
-  pub kind_trade : same l (text "TRADE") ≡ true → 0 ≡ kind_of l
-  unfolding kind_of
-  kind_trade e = rw e
-
-  module _ (trade : same l (text "TRADE") ≡ false) where
-    pub kind_rate : same l (text "RATE") ≡ true → 1 ≡ kind_of l
-    unfolding kind_of
-    kind_rate e = rw (trade, e)
-
-    module _ (rate : same l (text "RATE") ≡ false) where
-      pub kind_call : same l (text "CALL") ≡ true → 2 ≡ kind_of l
-      unfolding kind_of
-      kind_call e = rw (trade, rate, e)
-
-      module _ (call : same l (text "CALL") ≡ false) where
-        pub kind_net : same l (text "NET") ≡ true → 3 ≡ kind_of l
-        unfolding kind_of
-        kind_net e = rw (trade, rate, call, e)
-
-        pub kind_number : same l (text "NET") ≡ false → number_of 3 l ≡ kind_of l
-        unfolding kind_of
-        kind_number e = rw (trade, rate, call, e)
+pub is_same : (l : List ℕ) {b c : Bool} {m word : List ℕ} → b ≡ pointwise eqb l m → m ≡ word → b ≡ c → same l word ≡ c
+is_same l {b} {c} {m} {word} e w t = sym (same_is l word) ∙ ap (pointwise eqb l) (sym w) ∙ sym e ∙ t
 
 -- ---- lines
 
--- what is left from a place on
-pub rest_is : (from : ℕ) (l : List ℕ) → take (length l - from) (drop from l) ≡ drop from l
-rest_is from l = let n = length-drop from l in let h : length (drop from l) ≤ length l - from = omega (arith, n) in take_all (length l - from) (drop from l) h
+module _ (number kind a b amount : ℕ) where
+  pub whole_all : number < no_number → kind < no_number → a < no_number → b < no_number → amount < no_number → whole number kind a b amount ≡ Whole number kind a b amount
+  unfolding whole
+  whole_all n k p q m =
+      rw (
+        eqb_no number no_number (λ e. omega (arith, n, e)),
+        eqb_no kind no_number (λ e. omega (arith, k, e)),
+        eqb_no a no_number (λ e. omega (arith, p, e)),
+        eqb_no b no_number (λ e. omega (arith, q, e)),
+        eqb_no amount no_number (λ e. omega (arith, m, e)),
+      ) refl
 
-pub fields_are :
-    (entry : Entry) (number kind a b amount next second third : ℕ) (line rest : List ℕ)
-    → entry ≡ whole number kind a b amount
-    → kind ≡ kind_of (up_to comma rest)
-    → drop next line ≡ past comma rest
-    → a ≡ number_of most_account (up_to comma (drop next line))
-    → drop second line ≡ past comma (drop next line)
-    → b ≡ number_of most_account (up_to comma (drop second line))
-    → drop third line ≡ past comma (drop second line)
-    → amount ≡ number_of most_amount (drop third line)
-    → entry ≡ fields_after number rest
+  -- a field that is no number
+  pub no_kind : kind ≡ no_number → whole number kind a b amount ≡ malformed
+  unfolding whole
+  no_kind e = grind (arith, nat_tests)
+
+  pub no_a : a ≡ no_number → whole number kind a b amount ≡ malformed
+  unfolding whole
+  no_a e = grind (arith, nat_tests)
+
+  pub no_b : b ≡ no_number → whole number kind a b amount ≡ malformed
+  unfolding whole
+  no_b e = grind (arith, nat_tests)
+
+  pub no_amount : amount ≡ no_number → whole number kind a b amount ≡ malformed
+  unfolding whole
+  no_amount e = grind (arith, nat_tests)
+
+-- the fields behind the number, one after another
+pub fields_are : (number : ℕ) (line : List ℕ) {kind second a third b amount : List ℕ}
+    → kind ≡ up_to comma line
+    → second ≡ past comma line
+    → a ≡ up_to comma second
+    → third ≡ past comma second
+    → b ≡ up_to comma third
+    → amount ≡ past comma third
+    → fields_after number line ≡ whole number (kind_of kind) (number_of most_account a) (number_of most_account b) (number_of most_amount amount)
 unfolding fields_after
-fields_are entry number kind a b amount next second third line rest entry_is kind_is one a-is two b-is three amount-is = rw (entry_is, kind_is, a-is, b-is, amount-is, three, two, one)
+fields_are number line k one p two q three = rw (three, q, two, p, one, k) refl
 
-module _ (line : List ℕ) (to number : ℕ) (to_is : to ≡ 0 + place_of comma line) (number_is : number ≡ number_of most_number (take to line)) where
-  place : to ≡ place_of comma line
-  place = omega (arith, to_is)
+module _ (line : List ℕ) {first : List ℕ} (first_is : first ≡ up_to comma line) where
+  pub entry_none : no_number ≡ number_of most_number first → malformed ≡ entry_of line
+  unfolding entry_of fields_after whole alone
+  entry_none e = elim (test (mem comma line)) [
+    | inl t ↦ rw (t, sym (rw first_is at e)) refl
+    | inr f ↦ rw (f, sym (rw first_is at e)) refl
+  ]
 
-  first : number ≡ number_of most_number (up_to comma line)
-  first = number_is ∙ rw place (ap (number_of most_number) (take_place comma line))
+  pub entry_alone : {number : ℕ} → number ≡ number_of most_number first → number ≤ most_number → length first ≡ length line → Number number ≡ entry_of line
+  unfolding entry_of alone
+  entry_alone {number} e h n =
+      rw (mem_none comma line (rw first_is at n), sym (rw first_is at e), eqb_no number no_number (λ z. omega (arith, h, z))) refl
 
-  pub entry_alone : to ≡ length line → alone number ≡ entry_of line
+  pub entry_fields : {number : ℕ} → number ≡ number_of most_number first → length first ≢ length line → fields_after number (past comma line) ≡ entry_of line
   unfolding entry_of
-  entry_alone e =
-      let none : mem comma line ≡ false = place_mem comma line ∙ le-ltb (place_of comma line) (length line) (omega (arith, place, e)) in
-      rw (none, first)
-
-  pub entry_whole : to ≤ length line → to ≢ length line → fields_after number (drop (to + 1) line) ≡ entry_of line
-  unfolding entry_of past
-  entry_whole h d =
-      let some : mem comma line ≡ true = place_mem comma line ∙ lt-ltb (place_of comma line) (length line) (omega (arith, place, h, d)) in
-      rw (some, first, add-one to, place)
+  entry_fields {number} e n = rw (mem_some comma line (rw first_is at n), sym (rw first_is at e)) refl

@@ -3,7 +3,7 @@
 use Prim.Native.Nat.{ℕ, suc, ◌+◌, ◌-◌, ◌<◌, ◌≤◌}
 use mathlib.Core.Path.{◌≡◌, refl, sym, ap, ◌∙◌}
 use mathlib.Core.Logic.{inl, inr}
-use mathlib.Core.Bool.{Bool, true, false, cond}
+use mathlib.Core.Bool.{Bool, cond}
 use mathlib.Core.List.{List, [], ◌∷◌, append_assoc}
 use native.Mathlib.Omega.{arith}
 use native.Mathlib.Numerals.{add-one}
@@ -14,11 +14,11 @@ use borrow.Author.Tests.{leb-true, leb-false}
 use Rattle.broadcast.proofs.Tests.{test}
 use Rattle.audit_files.specs.declared.Entry.{Entry}
 use Rattle.audit_files.specs.declared.Refused.{Refused}
-use Rattle.audit_files.specs.Entries.{headed, top_line, entries}
+use Rattle.audit_files.specs.Entries.{line_feed, past, first_line, entry_of, headed, top_line, entries, number_in}
 use Rattle.audit_files.specs.Files.{Store, refusing, nothing, lower, kept, posting_code, kept_all, postings_refused, line_code, lines_refused, numbers_of, most_lines, record_lines, with_lines}
 use Rattle.audit_files.specs.Room.{Room}
-use Rattle.audit_files.specs.Steps.{SaidAt, entries_from, store}
-use Rattle.audit_files.proofs.FileLaws.{from_next, from_end}
+use Rattle.audit_files.specs.Steps.{entries_in, store}
+use Rattle.audit_files.proofs.FileLaws.{past_shorter, lines_next, lines_end}
 
 -- ---- the number of a line
 
@@ -30,62 +30,59 @@ top_most file = elim (test (headed file)) [ inl t ↦ rw t (omega arith) | inr f
 
 module _ (own : Bool) (file : ℕ) (text : List ℕ) (s₀ : Store) where
   -- what is kept of the lines so far, and their first refusal
-  pub record Noting (kinds firsts seconds amounts wheres : List ℕ) (refused : Refused) (line at : ℕ) : Type 0 where
-    pub within : at ≤ length text
-    pub few : line ≤ at + 2
+  pub record Noting (kinds firsts seconds amounts wheres : List ℕ) (refused : Refused) (line : ℕ) (rest : List ℕ) : Type 0 where
+    pub few : line + length rest ≤ length text + 2
     pub room : Room kinds firsts seconds amounts wheres
-    pub keeps_all : kept_all file line (entries_from text at) (store kinds firsts seconds amounts wheres) ≡ kept_all file (top_line text) (entries text) s₀
-    pub refuses_all : postings_refused own file line (entries_from text at) (store kinds firsts seconds amounts wheres) refused ≡ postings_refused own file (top_line text) (entries text) s₀ nothing
+    pub keeps_all : kept_all file line (entries_in rest) (store kinds firsts seconds amounts wheres) ≡ kept_all file (top_line text) (entries text) s₀
+    pub refuses_all : postings_refused own file line (entries_in rest) (store kinds firsts seconds amounts wheres) refused ≡ postings_refused own file (top_line text) (entries text) s₀ nothing
 
-  pub noting_start : {refused : Refused} {line at : ℕ} → refused ≡ nothing → line ≡ top_line text → (at ≤ length text) × (entries_from text at ≡ entries text)
+  pub noting_start : {refused : Refused} {line : ℕ} {rest : List ℕ} → refused ≡ nothing → line ≡ top_line text → (length rest ≤ length text) × (entries_in rest ≡ entries text)
       → Room s₀.kinds s₀.firsts s₀.seconds s₀.amounts s₀.wheres
-      → Noting s₀.kinds s₀.firsts s₀.seconds s₀.amounts s₀.wheres refused line at
-  noting_start {refused} {line} {at} refused-is line_is at-is r = let m = top_most text in record {
-    within = at-is.0;
-    few = omega (arith, line_is, m);
+      → Noting s₀.kinds s₀.firsts s₀.seconds s₀.amounts s₀.wheres refused line rest
+  noting_start {refused} {line} {rest} refused-is line_is rest-is r = let m = top_most text in record {
+    few = omega (arith, line_is, m, rest-is.0);
     room = r;
-    keeps_all = ap (λ (n : ℕ). kept_all file n (entries_from text at) s₀) line_is ∙ ap (λ (l : List Entry). kept_all file (top_line text) l s₀) at-is.1;
-    refuses_all = ap (λ (z : Refused). postings_refused own file line (entries_from text at) s₀ z) refused-is ∙ ap (λ (n : ℕ). postings_refused own file n (entries_from text at) s₀ nothing) line_is ∙ ap (λ (l : List Entry). postings_refused own file (top_line text) l s₀ nothing) at-is.1;
+    keeps_all = ap (λ (n : ℕ). kept_all file n (entries_in rest) s₀) line_is ∙ ap (λ (l : List Entry). kept_all file (top_line text) l s₀) rest-is.1;
+    refuses_all = ap (λ (z : Refused). postings_refused own file line (entries_in rest) s₀ z) refused-is ∙ ap (λ (n : ℕ). postings_refused own file n (entries_in rest) s₀ nothing) line_is ∙ ap (λ (l : List Entry). postings_refused own file (top_line text) l s₀ nothing) rest-is.1;
   }
 
-  module _ {kinds firsts seconds amounts wheres : List ℕ} {refused : Refused} {line at : ℕ} (so_far : Noting kinds firsts seconds amounts wheres refused line at) where
+  module _ {kinds firsts seconds amounts wheres : List ℕ} {refused : Refused} {line : ℕ} {rest : List ℕ} (so_far : Noting kinds firsts seconds amounts wheres refused line rest) where
     abbrev now_kept : Store
     now_kept = store kinds firsts seconds amounts wheres
 
-    pub noting_next : {kinds' firsts' seconds' amounts' wheres' : List ℕ} {refused' : Refused} (e : Entry) {next : ℕ} → at < length text → SaidAt text at e next
+    pub noting_next : {kinds' firsts' seconds' amounts' wheres' : List ℕ} {refused' : Refused} (e : Entry) {next : List ℕ} → 0 < length rest → e ≡ entry_of (first_line rest) → next ≡ past line_feed rest
         → length kinds' ≡ length kinds → length firsts' ≡ length firsts → length seconds' ≡ length seconds → length amounts' ≡ length amounts → length wheres' ≡ length wheres
         → store kinds' firsts' seconds' amounts' wheres' ≡ kept file line e now_kept
-        → refused' ≡ lower refused (refusing (posting_code own kinds e) file line e.number (get_or wheres e.number 0))
+        → refused' ≡ lower refused (refusing (posting_code own kinds e) file line (number_in e) (get_or wheres (number_in e) 0))
         → Noting kinds' firsts' seconds' amounts' wheres' refused' (line + 1) next
     unfolding kept_all postings_refused
-    noting_next {kinds'} {firsts'} {seconds'} {amounts'} {wheres'} {refused'} e {next} h said k₁ k₂ k₃ k₄ k₅ kept-is refused-is =
-        let further = said.further in
+    noting_next {kinds'} {firsts'} {seconds'} {amounts'} {wheres'} {refused'} e {next} h e-is next-is k₁ k₂ k₃ k₄ k₅ kept-is refused-is =
+        let shorter : length next < length rest = rw next-is (past_shorter rest h) in
         let few = so_far.few in
         let r = so_far.room in
         let new = store kinds' firsts' seconds' amounts' wheres' in
-        let rest = entries_from text next in
-        let here = sym (from_next text at e next h said) in
+        let left = entries_in next in
+        let here : e ∷ left ≡ entries_in rest = rw (e-is, next-is) (sym (lines_next rest h)) in
         record {
-          within = said.within;
-          few = omega (arith, further, few);
+          few = omega (arith, shorter, few);
           room = record { kinds_all = k₁ ∙ r.kinds_all; firsts_all = k₂ ∙ r.firsts_all; seconds_all = k₃ ∙ r.seconds_all; amounts_all = k₄ ∙ r.amounts_all; wheres_all = k₅ ∙ r.wheres_all };
           keeps_all =
-              ap (λ (n : ℕ). kept_all file n rest new) (add-one line)
-              ∙ ap (λ (s : Store). kept_all file (suc line) rest s) kept-is
+              ap (λ (n : ℕ). kept_all file n left new) (add-one line)
+              ∙ ap (λ (s : Store). kept_all file (suc line) left s) kept-is
               ∙ ap (λ (l : List Entry). kept_all file line l now_kept) here
               ∙ so_far.keeps_all;
           refuses_all =
-              ap (λ (n : ℕ). postings_refused own file n rest new refused') (add-one line)
-              ∙ ap (λ (s : Store). postings_refused own file (suc line) rest s refused') kept-is
-              ∙ ap (λ (s : Refused). postings_refused own file (suc line) rest (kept file line e now_kept) s) refused-is
+              ap (λ (n : ℕ). postings_refused own file n left new refused') (add-one line)
+              ∙ ap (λ (s : Store). postings_refused own file (suc line) left s refused') kept-is
+              ∙ ap (λ (s : Refused). postings_refused own file (suc line) left (kept file line e now_kept) s) refused-is
               ∙ ap (λ (l : List Entry). postings_refused own file line l now_kept refused) here
               ∙ so_far.refuses_all;
         }
 
-    pub noting_end : length text ≤ at → (refused ≡ postings_refused own file (top_line text) (entries text) s₀ nothing) × (now_kept ≡ kept_all file (top_line text) (entries text) s₀)
+    pub noting_end : length rest ≡ 0 → (refused ≡ postings_refused own file (top_line text) (entries text) s₀ nothing) × (now_kept ≡ kept_all file (top_line text) (entries text) s₀)
     unfolding kept_all postings_refused
     noting_end h =
-        let none = sym (from_end text at h) in (
+        let none = sym (lines_end rest h) in (
           ap (λ (l : List Entry). postings_refused own file line l now_kept refused) none ∙ so_far.refuses_all,
           ap (λ (l : List Entry). kept_all file line l now_kept) none ∙ so_far.keeps_all,
         )
@@ -110,7 +107,7 @@ module _ (most : ℕ) where
   unfolding left_of numbers_of
   left_full count l h = let e : most - count ≡ 0 = omega (arith, h) in ap (λ (n : ℕ). numbers_of (take n l)) e
 
-  left_next : (count : ℕ) (e : Entry) (l : List Entry) → count < most → left_of count (e ∷ l) ≡ e.number ∷ left_of (suc count) l
+  left_next : (count : ℕ) (e : Entry) (l : List Entry) → count < most → left_of count (e ∷ l) ≡ number_in e ∷ left_of (suc count) l
   unfolding left_of numbers_of
   left_next count e l h = let s : most - count ≡ suc (most - suc count) = omega (arith, h) in ap (λ (n : ℕ). numbers_of (take n (e ∷ l))) s
 
@@ -120,7 +117,7 @@ module _ (most : ℕ) where
 
   module _ (from : ℕ) (lines : List ℕ) (count : ℕ) (e : Entry) (l : List Entry) {lines' : List ℕ} {count' : ℕ}
       (count-is : count' ≡ cond (leb most count) count (count + 1))
-      (lines-is : lines' ≡ cond (leb most count) lines (set lines (from + count) e.number)) where
+      (lines-is : lines' ≡ cond (leb most count) lines (set lines (from + count) (number_in e))) where
     put_next : sets lines' (from + count') (left_of count' l) ≡ sets lines (from + count) (left_of count (e ∷ l))
     put_next = elim (test (leb most count)) [
       | inl t ↦
@@ -131,7 +128,7 @@ module _ (most : ℕ) where
       | inr f ↦
           let m = leb-false most count f in
           let a : count' ≡ suc count = count-is ∙ rw f (add-one count) in
-          let b : lines' ≡ set lines (from + count) e.number = lines-is ∙ rw f in
+          let b : lines' ≡ set lines (from + count) (number_in e) = lines-is ∙ rw f in
           let s : from + suc count ≡ suc (from + count) = omega arith in
           rw (a, b, left_next count e l m, s)
     ]
@@ -151,75 +148,72 @@ module _ (most : ℕ) where
     long_next : length lines' ≡ length lines
     long_next = elim (test (leb most count)) [
       | inl t ↦ let b : lines' ≡ lines = lines-is ∙ rw t in ap length b
-      | inr f ↦ let b : lines' ≡ set lines (from + count) e.number = lines-is ∙ rw f in ap length b ∙ length-set lines (from + count) e.number
+      | inr f ↦ let b : lines' ≡ set lines (from + count) (number_in e) = lines-is ∙ rw f in ap length b ∙ length-set lines (from + count) (number_in e)
     ]
 
 module _ (s : Store) (file : ℕ) (text : List ℕ) (lines₀ : List ℕ) (from : ℕ) where
   -- the lines handed on so far, and their first refusal
-  pub record Reading (lines : List ℕ) (refused : Refused) (count line at : ℕ) : Type 0 where
-    pub within : at ≤ length text
-    pub few : line ≤ at + 2
+  pub record Reading (lines : List ℕ) (refused : Refused) (count line : ℕ) (rest : List ℕ) : Type 0 where
+    pub few : line + length rest ≤ length text + 2
     pub long : length lines ≡ length lines₀
-    pub counts_all : count + length (left_of most_lines count (entries_from text at)) ≡ length (record_lines (entries text))
-    pub puts_all : sets lines (from + count) (left_of most_lines count (entries_from text at)) ≡ sets lines₀ from (record_lines (entries text))
-    pub refuses_all : lines_refused s file line (entries_from text at) refused ≡ lines_refused s file (top_line text) (entries text) nothing
+    pub counts_all : count + length (left_of most_lines count (entries_in rest)) ≡ length (record_lines (entries text))
+    pub puts_all : sets lines (from + count) (left_of most_lines count (entries_in rest)) ≡ sets lines₀ from (record_lines (entries text))
+    pub refuses_all : lines_refused s file line (entries_in rest) refused ≡ lines_refused s file (top_line text) (entries text) nothing
 
-  pub reading_start : {refused : Refused} {line at : ℕ} → refused ≡ nothing → line ≡ top_line text → (at ≤ length text) × (entries_from text at ≡ entries text) → Reading lines₀ refused 0 line at
+  pub reading_start : {refused : Refused} {line : ℕ} {rest : List ℕ} → refused ≡ nothing → line ≡ top_line text → (length rest ≤ length text) × (entries_in rest ≡ entries text) → Reading lines₀ refused 0 line rest
   unfolding record_lines
-  reading_start {refused} {line} {at} refused-is line_is at-is =
+  reading_start {refused} {line} {rest} refused-is line_is rest-is =
       let m = top_most text in
-      let all : left_of most_lines 0 (entries_from text at) ≡ record_lines (entries text) = ap (left_of most_lines 0) at-is.1 ∙ left_all most_lines (entries text) in
+      let all : left_of most_lines 0 (entries_in rest) ≡ record_lines (entries text) = ap (left_of most_lines 0) rest-is.1 ∙ left_all most_lines (entries text) in
       let f : from + 0 ≡ from = omega arith in
       let z : 0 + length (record_lines (entries text)) ≡ length (record_lines (entries text)) = omega arith in
       record {
-        within = at-is.0;
-        few = omega (arith, line_is, m);
+        few = omega (arith, line_is, m, rest-is.0);
         long = refl;
         counts_all = ap (λ (l : List ℕ). 0 + length l) all ∙ z;
         puts_all = ap (λ (l : List ℕ). sets lines₀ (from + 0) l) all ∙ ap (λ (i : ℕ). sets lines₀ i (record_lines (entries text))) f;
-        refuses_all = ap (λ (z : Refused). lines_refused s file line (entries_from text at) z) refused-is ∙ ap (λ (n : ℕ). lines_refused s file n (entries_from text at) nothing) line_is ∙ ap (λ (l : List Entry). lines_refused s file (top_line text) l nothing) at-is.1;
+        refuses_all = ap (λ (z : Refused). lines_refused s file line (entries_in rest) z) refused-is ∙ ap (λ (n : ℕ). lines_refused s file n (entries_in rest) nothing) line_is ∙ ap (λ (l : List Entry). lines_refused s file (top_line text) l nothing) rest-is.1;
       }
 
-  module _ {lines : List ℕ} {refused : Refused} {count line at : ℕ} (so_far : Reading lines refused count line at) where
-    pub reading_next : {lines' : List ℕ} {refused' : Refused} {count' : ℕ} (e : Entry) {next : ℕ} → at < length text → SaidAt text at e next
+  module _ {lines : List ℕ} {refused : Refused} {count line : ℕ} {rest : List ℕ} (so_far : Reading lines refused count line rest) where
+    pub reading_next : {lines' : List ℕ} {refused' : Refused} {count' : ℕ} (e : Entry) {next : List ℕ} → 0 < length rest → e ≡ entry_of (first_line rest) → next ≡ past line_feed rest
         → count' ≡ cond (leb most_lines count) count (count + 1)
-        → lines' ≡ cond (leb most_lines count) lines (set lines (from + count) e.number)
-        → refused' ≡ lower refused (refusing (line_code s e) file line e.number (get_or s.wheres e.number 0))
+        → lines' ≡ cond (leb most_lines count) lines (set lines (from + count) (number_in e))
+        → refused' ≡ lower refused (refusing (line_code s e) file line (number_in e) (get_or s.wheres (number_in e) 0))
         → Reading lines' refused' count' (line + 1) next
     unfolding lines_refused
-    reading_next {lines'} {refused'} {count'} e {next} h said count-is lines-is refused-is =
-        let further = said.further in
+    reading_next {lines'} {refused'} {count'} e {next} h e-is next-is count-is lines-is refused-is =
+        let shorter : length next < length rest = rw next-is (past_shorter rest h) in
         let few = so_far.few in
-        let rest = entries_from text next in
-        let here = sym (from_next text at e next h said) in
+        let left = entries_in next in
+        let here : e ∷ left ≡ entries_in rest = rw (e-is, next-is) (sym (lines_next rest h)) in
         record {
-          within = said.within;
-          few = omega (arith, further, few);
-          long = long_next most_lines from lines count e rest count-is lines-is ∙ so_far.long;
-          counts_all = count_next most_lines from lines count e rest count-is lines-is ∙ ap (λ (l : List Entry). count + length (left_of most_lines count l)) here ∙ so_far.counts_all;
-          puts_all = put_next most_lines from lines count e rest count-is lines-is ∙ ap (λ (l : List Entry). sets lines (from + count) (left_of most_lines count l)) here ∙ so_far.puts_all;
+          few = omega (arith, shorter, few);
+          long = long_next most_lines from lines count e left count-is lines-is ∙ so_far.long;
+          counts_all = count_next most_lines from lines count e left count-is lines-is ∙ ap (λ (l : List Entry). count + length (left_of most_lines count l)) here ∙ so_far.counts_all;
+          puts_all = put_next most_lines from lines count e left count-is lines-is ∙ ap (λ (l : List Entry). sets lines (from + count) (left_of most_lines count l)) here ∙ so_far.puts_all;
           refuses_all =
-              ap (λ (n : ℕ). lines_refused s file n rest refused') (add-one line)
-              ∙ ap (λ (r : Refused). lines_refused s file (suc line) rest r) refused-is
+              ap (λ (n : ℕ). lines_refused s file n left refused') (add-one line)
+              ∙ ap (λ (r : Refused). lines_refused s file (suc line) left r) refused-is
               ∙ ap (λ (l : List Entry). lines_refused s file line l refused) here
               ∙ so_far.refuses_all;
         }
 
-    pub reading_refused : length text ≤ at → refused ≡ lines_refused s file (top_line text) (entries text) nothing
+    pub reading_refused : length rest ≡ 0 → refused ≡ lines_refused s file (top_line text) (entries text) nothing
     unfolding lines_refused
-    reading_refused h = ap (λ (l : List Entry). lines_refused s file line l refused) (sym (from_end text at h)) ∙ so_far.refuses_all
+    reading_refused h = ap (λ (l : List Entry). lines_refused s file line l refused) (sym (lines_end rest h)) ∙ so_far.refuses_all
 
     -- nothing is left
-    done : length text ≤ at → left_of most_lines count (entries_from text at) ≡ []
-    done h = ap (left_of most_lines count) (from_end text at h) ∙ left_none most_lines count
+    done : length rest ≡ 0 → left_of most_lines count (entries_in rest) ≡ []
+    done h = ap (left_of most_lines count) (lines_end rest h) ∙ left_none most_lines count
 
-    pub reading_count : length text ≤ at → count ≡ length (record_lines (entries text))
+    pub reading_count : length rest ≡ 0 → count ≡ length (record_lines (entries text))
     reading_count h =
-        let n : length (left_of most_lines count (entries_from text at)) ≡ 0 = ap length (done h) in
+        let n : length (left_of most_lines count (entries_in rest)) ≡ 0 = ap length (done h) in
         let a = so_far.counts_all in
         omega (arith, n, a)
 
-    pub reading_lines : length text ≤ at → from + most_lines ≤ length lines₀ → lines ≡ with_lines lines₀ from (record_lines (entries text))
+    pub reading_lines : length rest ≡ 0 → from + most_lines ≤ length lines₀ → lines ≡ with_lines lines₀ from (record_lines (entries text))
     unfolding record_lines with_lines
     reading_lines h r =
         let l = record_lines (entries text) in

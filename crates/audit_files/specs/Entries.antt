@@ -1,10 +1,11 @@
 -- What the lines of a file say: each a posting's number, or all five fields, `number,kind,a,b,amount`.
 -- Rests on Words, the declared Entry, and audit_rule's Audit and Handed for places in a list.
-use Rattle.std.specs.Prelude.{ℕ, zero, suc, ◌+◌, ◌*◌, ◌-◌, Bool, cond, not, ◌&&◌, ◌||◌, List, [], ◌∷◌, eqb, leb, length, get_or, take, drop}
+use Rattle.std.specs.Prelude.{ℕ, zero, suc, ◌+◌, ◌*◌, ◌-◌, Bool, true, false, cond, not, ◌&&◌, ◌||◌, List, [], ◌∷◌, eqb, leb, length, get_or, take, drop}
 use Rattle.broadcast.specs.Lists.{mem}
 use Rattle.audit_rule.specs.Audit.{up_to}
 use Rattle.audit_rule.specs.Handed.{place_of}
 use Rattle.audit_files.specs.declared.Entry.{Entry}
+use Rattle.audit_files.specs.declared.Entry.TheVariants.{Malformed, Number, Whole}
 use Rattle.amounts.specs.Amounts.{text}
 use Rattle.audit_files.specs.Words.{same}
 
@@ -72,18 +73,54 @@ most_amount = 4_294_967_295
 
 -- ---- lines
 
--- form 0: malformed; 1: a number alone; 2: all five fields
+-- a number alone, or all five fields; malformed where a number is none
 abbrev pub malformed : Entry
-malformed = record { form = 0; number = 0; kind = 0; a = 0; b = 0; amount = 0 }
+malformed = Malformed
 
 unfoldable pub alone : ℕ → Entry
-alone number = cond (eqb number no_number) malformed (record { form = 1; number = number; kind = 0; a = 0; b = 0; amount = 0 })
+alone number = cond (eqb number no_number) malformed (Number number)
 
 unfoldable pub whole : (number kind a b amount : ℕ) → Entry
 whole number kind a b amount =
     cond (eqb number no_number || (eqb kind no_number || (eqb a no_number || (eqb b no_number || eqb amount no_number))))
     malformed
-    (record { form = 2; number = number; kind = kind; a = a; b = b; amount = amount })
+    (Whole number kind a b amount)
+
+-- what is said of a posting: its number and its fields, 0 where the line says nothing of them
+abbrev pub is_malformed : Entry → Bool
+is_malformed Malformed = true
+is_malformed (Number number) = false
+is_malformed (Whole number kind a b amount) = false
+
+abbrev pub is_whole : Entry → Bool
+is_whole Malformed = false
+is_whole (Number number) = false
+is_whole (Whole number kind a b amount) = true
+
+abbrev pub number_in : Entry → ℕ
+number_in Malformed = 0
+number_in (Number number) = number
+number_in (Whole number kind a b amount) = number
+
+abbrev pub kind_in : Entry → ℕ
+kind_in Malformed = 0
+kind_in (Number number) = 0
+kind_in (Whole number kind a b amount) = kind
+
+abbrev pub a_in : Entry → ℕ
+a_in Malformed = 0
+a_in (Number number) = 0
+a_in (Whole number kind a b amount) = a
+
+abbrev pub b_in : Entry → ℕ
+b_in Malformed = 0
+b_in (Number number) = 0
+b_in (Whole number kind a b amount) = b
+
+abbrev pub amount_in : Entry → ℕ
+amount_in Malformed = 0
+amount_in (Number number) = 0
+amount_in (Whole number kind a b amount) = amount
 
 -- the fields behind the number, parted by commas
 unfoldable pub fields_after : ℕ → List ℕ → Entry

@@ -5,6 +5,7 @@ use Rattle.posting.specs.Kinds.{fields_ok}
 use Rattle.posting.specs.declared.Posting.{Posting}
 use Rattle.audit_input.specs.Input.{unused}
 use Rattle.audit_files.specs.declared.Entry.{Entry}
+use Rattle.audit_files.specs.Entries.{is_malformed, is_whole, number_in, kind_in, a_in, b_in, amount_in}
 use Rattle.audit_files.specs.declared.Refused.{Refused}
 
 -- ---- refusals
@@ -36,27 +37,27 @@ unfoldable pub where_is : (file line : ℕ) → ℕ
 where_is file line = 8 * line + file
 
 abbrev pub posting_of : Entry → Posting
-posting_of e = record { owner = 0; kind = e.kind; a = e.a; b = e.b; amount = e.amount }
+posting_of e = record { owner = 0; kind = kind_in e; a = a_in e; b = b_in e; amount = amount_in e }
 
 -- a line with all fields is kept, unless its number has a posting already
 unfoldable pub keeps : Entry → List ℕ → Bool
-keeps e kinds = eqb e.form 2 && unused kinds e.number
+keeps e kinds = is_whole e && unused kinds (number_in e)
 
 unfoldable pub kept : (file line : ℕ) → Entry → Store → Store
 kept file line e s =
     cond (keeps e s.kinds)
     (record {
-      kinds = set s.kinds e.number e.kind;
-      firsts = set s.firsts e.number e.a;
-      seconds = set s.seconds e.number e.b;
-      amounts = set s.amounts e.number e.amount;
-      wheres = set s.wheres e.number (where_is file line);
+      kinds = set s.kinds (number_in e) (kind_in e);
+      firsts = set s.firsts (number_in e) (a_in e);
+      seconds = set s.seconds (number_in e) (b_in e);
+      amounts = set s.amounts (number_in e) (amount_in e);
+      wheres = set s.wheres (number_in e) (where_is file line);
     })
     s
 
 -- 4 malformed, or not all fields; 5 fields outside their row; 6 a number twice, unless the records bring their own postings
 unfoldable pub posting_code : (own : Bool) → List ℕ → Entry → ℕ
-posting_code own kinds e = cond (eqb e.form 2) (cond (fields_ok (posting_of e)) (cond (own || unused kinds e.number) 0 6) 5) 4
+posting_code own kinds e = cond (is_whole e) (cond (fields_ok (posting_of e)) (cond (own || unused kinds (number_in e)) 0 6) 5) 4
 
 unfoldable pub kept_all : (file line : ℕ) → List Entry → Store → Store
 kept_all file line [] s = s
@@ -66,30 +67,30 @@ unfoldable pub postings_refused : (own : Bool) (file line : ℕ) → List Entry 
 postings_refused own file line [] s r = r
 postings_refused own file line (e ∷ l) s r =
     let code = posting_code own s.kinds e in
-    postings_refused own file (suc line) l (kept file line e s) (lower r (refusing code file line e.number (get_or s.wheres e.number 0)))
+    postings_refused own file (suc line) l (kept file line e s) (lower r (refusing code file line (number_in e) (get_or s.wheres (number_in e) 0)))
 
 -- ---- records
 
 -- the posting's fields are those that were read
 unfoldable pub agrees : Store → Entry → Bool
 agrees s e =
-    eqb (get_or s.kinds e.number 0) e.kind
-    && (eqb (get_or s.firsts e.number 0) e.a && (eqb (get_or s.seconds e.number 0) e.b && eqb (get_or s.amounts e.number 0) e.amount))
+    eqb (get_or s.kinds (number_in e) 0) (kind_in e)
+    && (eqb (get_or s.firsts (number_in e) 0) (a_in e) && (eqb (get_or s.seconds (number_in e) 0) (b_in e) && eqb (get_or s.amounts (number_in e) 0) (amount_in e)))
 
 -- 4 malformed; 7 a number without a posting; 8 other fields than the posting's
 unfoldable pub line_code : Store → Entry → ℕ
 line_code s e =
-    cond (eqb e.form 0) 4
-    (cond (unused s.kinds e.number) 7
-    (cond (eqb e.form 2 && not (agrees s e)) 8 0))
+    cond (is_malformed e) 4
+    (cond (unused s.kinds (number_in e)) 7
+    (cond (is_whole e && not (agrees s e)) 8 0))
 
 unfoldable pub lines_refused : Store → (file line : ℕ) → List Entry → Refused → Refused
 lines_refused s file line [] r = r
-lines_refused s file line (e ∷ l) r = lines_refused s file (suc line) l (lower r (refusing (line_code s e) file line e.number (get_or s.wheres e.number 0)))
+lines_refused s file line (e ∷ l) r = lines_refused s file (suc line) l (lower r (refusing (line_code s e) file line (number_in e) (get_or s.wheres (number_in e) 0)))
 
 unfoldable pub numbers_of : List Entry → List ℕ
 numbers_of [] = []
-numbers_of (e ∷ l) = e.number ∷ numbers_of l
+numbers_of (e ∷ l) = number_in e ∷ numbers_of l
 
 -- a record's lines are handed on, of a longer one so many: it has a number twice within them
 abbrev pub most_lines : ℕ

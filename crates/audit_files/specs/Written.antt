@@ -4,17 +4,22 @@ use Rattle.std.specs.Prelude.{ℕ, ◌≤◌, ◌<◌, ◌≡◌, true, false, c
 use Rattle.broadcast.specs.Lists.{mem}
 use Rattle.printer.specs.Output.{decimal}
 use Rattle.audit_files.specs.declared.Entry.{Entry}
+use Rattle.audit_files.specs.declared.Entry.TheVariants.{Malformed, Number, Whole}
 use Rattle.amounts.specs.Amounts.{text}
 use Rattle.audit_files.specs.Entries.{comma, line_feed, carriage_return, is_letter, most_number, most_account, most_amount, alone, whole}
 
 abbrev pub kind_word : ℕ → List ℕ
 kind_word kind = cond (eqb kind 0) (text "TRADE") (cond (eqb kind 1) (text "RATE") (cond (eqb kind 2) (text "CALL") (text "NET")))
 
--- a number alone, or five fields parted by commas
+-- five fields parted by commas
+abbrev pub fields_of : (number kind a b amount : ℕ) → List ℕ
+fields_of number kind a b amount = decimal number ++ (comma ∷ (kind_word kind ++ (comma ∷ (decimal a ++ (comma ∷ (decimal b ++ (comma ∷ decimal amount)))))))
+
+-- a number alone, or five fields
 unfoldable pub line_of : Entry → List ℕ
-line_of e =
-    cond (eqb e.form 1) (decimal e.number)
-    (decimal e.number ++ (comma ∷ (kind_word e.kind ++ (comma ∷ (decimal e.a ++ (comma ∷ (decimal e.b ++ (comma ∷ decimal e.amount))))))))
+line_of Malformed = fields_of 0 0 0 0 0
+line_of (Number number) = decimal number
+line_of (Whole number kind a b amount) = fields_of number kind a b amount
 
 -- a line's end: LF, or CR LF
 pub data Ending : Type 0 where

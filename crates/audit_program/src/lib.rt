@@ -1,8 +1,8 @@
 // Program `audit` over the process's arguments: files are read, and the report is written to standard output.
-// Rests on audit_files and audit_report for all of the work, on std for reading and writing, of which no contract can say more.
+// Rests on audit_files and audit_report for all of the work, on reading, on std for files and writing, of which no contract can say more.
 #![tactic(auto)]
 
-ghost use Rattle.std.specs.Prelude.{◌≡◌, ◌+◌, ◌<◌, ◌≤◌, length, IfOk};
+ghost use Rattle.std.specs.Prelude.{◌≡◌, ◌+◌, ◌<◌, ◌≤◌, length, IfOk, IfSome};
 ghost use Rattle.audit_files.specs.Room.{Room};
 
 use audit_files::Refused;
@@ -10,7 +10,7 @@ use audit_files::files::{Read, lower, read_postings, read_record, refusing, top_
 use audit_input::matrix_ok;
 use audit_report::report;
 use audit_witness::refusals::put_refused;
-use printer::Printed;
+use reading::read_full;
 use std::env::FillError;
 use std::io::{Cursor, Write};
 use std::rt::{Env, Files};
@@ -41,29 +41,28 @@ const REFUSAL: usize = 4096;
 // The fixed pairs.
 const FIXED_PAIRS: u16 = 0x5B6C;
 
-// What a file gave: how many bytes, and 0, or 1 if it cannot be read, or 2 if it is too long.
-#[derive(Drop)]
-pub struct Loaded {
-    pub length: usize,
-    pub state: u8,
+// Why a file gave nothing.
+#[derive(Clone, Copy)]
+enum Unread {
+    Failed,
+    TooLong,
 }
 
-const UNREAD: u8 = 1;
+// The refusals that no line of a file gives: of the arguments, of the matrix, of a file.
+const BAD_ARGUMENTS: u8 = 1;
 
-const LONG: u8 = 2;
+const BAD_MATRIX: u8 = 2;
 
-// No argument gives such a matrix.
-const NO_MATRIX: usize = 65_536;
+const BAD_FILE: u8 = 3;
 
 // The longest message of the system's.
 const MESSAGE: usize = 512;
 
 // A text on standard output; if it cannot be written, that is said on standard error.
 fn write_out(rt: &(impl Print + Eprint), text: &[u8]) {
-    if rt.write_all(text).is_ok() {
-        return;
+    if rt.write_all(text).is_err() {
+        let _ = rt.eprintln("The report could not be written to its end.");
     }
-    let _ = rt.eprintln("The report could not be written to its end.");
 }
 
 // An argument at the start of the slice: how many bytes it has, or 0 where there is none that fits.
@@ -88,14 +87,11 @@ pub fn argument_count(rt: &impl Env, most: usize) -> usize
 
 // What the system's message says; the number that std puts behind it is left out.
 fn put_reason(rt: &impl Eprint, message: &str) {
-    match message.split_once(" (os error ") {
-        Some((reason, _)) => {
-            let _ = rt.eprintln(reason);
-        }
-        None => {
-            let _ = rt.eprintln(message.trim_end_matches('\0'));
-        }
-    }
+    let reason = match message.split_once(" (os error ") {
+        Some((reason, _)) => reason,
+        None => message.trim_end_matches('\0'),
+    };
+    let _ = rt.eprintln(reason);
 }
 
 // A file and why it was not read, on standard error.
@@ -104,21 +100,6 @@ fn say_failed(rt: &impl Eprint, path: &str, error: &io::Error) {
     let _ = write!(message, "{error}");
     let _ = eprint!(rt; "{path}: ");
     put_reason(rt, str::from_utf8(message.get_ref()).unwrap_or(""));
-}
-
-// Reads until the slice is full or the file ends: how many bytes there are at its start.
-fn read_full<R: io::Read>(from: &mut R, text: &mut [u8]) -> io::Result<usize>
-    ensures { IfOk result (λ n. n ≤ length text.new) }
-{
-    let mut done = 0;
-    while done < text.len() {
-        let n = from.read(&mut text[done..])?;
-        if n == 0 {
-            break;
-        }
-        done += n;
-    }
-    Ok(done)
 }
 
 // A file opened and read into the slice.
@@ -130,27 +111,22 @@ fn read_file(rt: &impl Files, path: &str, text: &mut [u8]) -> io::Result<usize>
 }
 
 // The file of a name, read into the slice. What fails is said on standard error.
-fn load_named(rt: &(impl Files + Eprint), path: &str, text: &mut [u8]) -> Loaded
-    ensures { result.length ≤ length text.new }
+fn load_named(rt: &(impl Files + Eprint), path: &str, text: &mut [u8]) -> Result<usize, Unread>
+    ensures { IfOk result (λ n. n ≤ length text.new) }
 {
     match read_file(rt, path, text) {
-        Ok(length) => Loaded {
-            length,
-            state: if length == text.len() { LONG } else { 0 },
-        },
+        Ok(length) if length == text.len() => Err(Unread::TooLong),
+        Ok(length) => Ok(length),
         Err(error) => {
             say_failed(rt, path, &error);
-            Loaded {
-                length: 0,
-                state: UNREAD,
-            }
+            Err(Unread::Failed)
         }
     }
 }
 
 // The file that an argument names, read into the slice. What fails is said on standard error.
-fn load(rt: &(impl Files + Env + Eprint), number: usize, text: &mut [u8]) -> Loaded
-    ensures { result.length ≤ length text.new }
+fn load(rt: &(impl Files + Env + Eprint), number: usize, text: &mut [u8]) -> Result<usize, Unread>
+    ensures { IfOk result (λ n. n ≤ length text.new) }
 {
     let mut path = [0; PATH];
     let n = argument(rt, number, &mut path);
@@ -158,20 +134,22 @@ fn load(rt: &(impl Files + Env + Eprint), number: usize, text: &mut [u8]) -> Loa
         Ok(path) => load_named(rt, path, text),
         Err(_) => {
             let _ = eprintln!(rt; "Argument {number} is no text, and no file is read by it.");
-            Loaded {
-                length: 0,
-                state: UNREAD,
-            }
+            Err(Unread::Failed)
         }
     }
 }
 
+// Nothing is refused.
+fn nothing() -> Refused {
+    refusing(0, 0, 0, 0, 0)
+}
+
 // A file that was not read.
-fn not_read(file: usize, state: u8) -> Refused {
-    if state == LONG {
-        return refusing(3, file, 0, 1, 0);
+fn not_read(file: usize, why: Unread) -> Refused {
+    match why {
+        Unread::Failed => refusing(BAD_FILE, file, 0, 0, 0),
+        Unread::TooLong => refusing(BAD_FILE, file, 0, 1, 0),
     }
-    refusing(3, file, 0, 0, 0)
 }
 
 // The postings that a record brings, if there is no file of postings.
@@ -188,9 +166,10 @@ fn read_own(
     requires { Room kinds.old firsts.old seconds.old amounts.old wheres.old × (file ≤ 7) × (length text.now ≤ 2_097_152) }
 {
     if own {
-        return read_postings(true, file, text, kinds, firsts, seconds, amounts, wheres);
+        read_postings(true, file, text, kinds, firsts, seconds, amounts, wheres)
+    } else {
+        nothing()
     }
-    refusing(0, 0, 0, 0, 0)
 }
 
 // The file of site p, read.
@@ -212,12 +191,15 @@ fn read_site(
     requires { Room kinds.old firsts.old seconds.old amounts.old wheres.old × (p < 7) × (length tops.old ≡ 7) × (length text.old ≡ 2_097_152) × (from + 65_537 ≤ length lines.old) }
     ensures { result.count ≤ 65_537 }
 {
-    let loaded = load(rt, number, text);
-    if loaded.state != 0 {
-        let refused = not_read(p + 1, loaded.state);
-        return Read { count: 0, refused };
-    }
-    let n = loaded.length;
+    let n = match load(rt, number, text) {
+        Ok(n) => n,
+        Err(why) => {
+            return Read {
+                count: 0,
+                refused: not_read(p + 1, why),
+            };
+        }
+    };
     tops[p] = top_line(&text[..n]) as u8;
     let brought = read_own(
         own,
@@ -266,7 +248,7 @@ fn read_sites(
     requires { Room kinds.old firsts.old seconds.old amounts.old wheres.old × (n ≤ 7) × (number ≤ 1_000_000) × (length ends.old ≡ 7) × (length tops.old ≡ 7) × (length text.old ≡ 2_097_152) × (length lines.old ≡ 458_759) }
     ensures { result.count ≤ 458_759 }
 {
-    let mut refused = refusing(0, 0, 0, 0, 0);
+    let mut refused = nothing();
     let mut from = 0;
     for p in 0..n {
         let read = read_site(
@@ -309,32 +291,28 @@ fn read_first(
     requires { Room kinds.old firsts.old seconds.old amounts.old wheres.old × (length text.old ≡ 2_097_152) }
 {
     if own {
-        return refusing(0, 0, 0, 0, 0);
+        return nothing();
     }
-    let loaded = load(rt, number, text);
-    if loaded.state != 0 {
-        return not_read(0, loaded.state);
+    match load(rt, number, text) {
+        Ok(n) => read_postings(
+            false,
+            0,
+            &text[..n],
+            kinds,
+            firsts,
+            seconds,
+            amounts,
+            wheres,
+        ),
+        Err(why) => not_read(0, why),
     }
-    read_postings(
-        false,
-        0,
-        &text[..loaded.length],
-        kinds,
-        firsts,
-        seconds,
-        amounts,
-        wheres,
-    )
 }
 
 // Whether an argument is `-`: then the records bring their own postings.
 fn is_own(rt: &impl Env, number: usize) -> bool {
     let mut path = [0; PATH];
     let n = argument(rt, number, &mut path);
-    if n != 1 {
-        return false;
-    }
-    path[0] == b'-'
+    n == 1 && path[0] == b'-'
 }
 
 // All files, read.
@@ -431,12 +409,8 @@ fn report_read(
         &mut out,
     );
     match answer {
-        Printed::Written(count) => {
-            write_out(rt, &out[..count]);
-        }
-        Printed::Short => {
-            say_too_long(rt);
-        }
+        Some(count) => write_out(rt, &out[..count]),
+        None => say_too_long(rt),
     }
 }
 
@@ -506,85 +480,43 @@ fn name_sites(rt: &(impl Env + Print + Eprint), number: usize, n: usize)
     }
 }
 
-// The value of a hexadecimal digit; 16 if it is none.
-fn hex_digit(byte: u8) -> usize
-    ensures { result ≤ 16 }
-{
-    if byte < 48 {
-        return 16;
+// A number of hexadecimal digits, 0 if there are none.
+fn hex_number(digits: &[u8]) -> Option<u16> {
+    let mut value: u16 = 0;
+    for &byte in digits {
+        let digit = char::from(byte).to_digit(16)?;
+        value = value.checked_mul(16)?.checked_add(digit as u16)?;
     }
-    if byte <= 57 {
-        return (byte - 48) as usize;
-    }
-    if byte < 65 {
-        return 16;
-    }
-    if byte <= 70 {
-        return (byte - 55) as usize;
-    }
-    if byte < 97 {
-        return 16;
-    }
-    if byte <= 102 {
-        return (byte - 87) as usize;
-    }
-    16
+    Some(value)
 }
 
-// The number of at most four hexadecimal digits, from the third byte on; 0, which is refused, if it is none.
-fn hex_number(text: &[u8]) -> usize
-    ensures { result < 65_536 }
-{
-    let mut value = 0;
-    let mut i = 2;
-    while i < text.len() {
-        let digit = hex_digit(text[i]);
-        if digit == 16 {
-            return 0;
-        }
-        value = 16 * value + digit;
-        if 65_535 < value {
-            return 0;
-        }
-        i += 1;
-    }
-    value
-}
-
-// The matrix that an argument gives, which begins with 0x; NO_MATRIX if it gives none.
-fn matrix_at(rt: &impl Env, number: usize) -> usize
-    ensures { result ≤ 65_536 }
-{
+// The matrix that an argument gives, which begins with 0x; it is 0, which is refused, where what follows is no matrix.
+fn matrix_at(rt: &impl Env, number: usize) -> Option<u16> {
     let mut path = [0; PATH];
     let n = argument(rt, number, &mut path);
-    if n < 2 {
-        return NO_MATRIX;
-    }
-    if path[0] != b'0' {
-        return NO_MATRIX;
-    }
-    if path[1] != b'x' {
-        return NO_MATRIX;
-    }
-    hex_number(&path[..n])
+    let digits = path[..n].strip_prefix(b"0x")?;
+    Some(hex_number(digits).unwrap_or(0))
+}
+
+// How many sites there are where the file of postings is one argument and another is the end.
+fn sites_between(number: usize, end: usize) -> Option<usize>
+    requires { number < 1_000_000 }
+    ensures { IfSome result (λ n. n ≤ 7) }
+{
+    let n = end.checked_sub(number + 1)?;
+    (1 <= n && n <= SITES).then_some(n)
 }
 
 // The arguments from a file of postings on, up to an end.
 fn audit_from(rt: &(impl Files + Env + Print + Eprint), matrix: u16, number: usize, end: usize)
     requires { (number < 1_000_000) × (end < 1_000_000) }
 {
-    if end <= number + 1 {
-        say_refused(rt, refusing(1, 0, 0, 0, 0));
+    let Some(n) = sites_between(number, end) else {
+        say_refused(rt, refusing(BAD_ARGUMENTS, 0, 0, 0, 0));
         return;
-    }
-    let n = end - number - 1;
-    if SITES < n {
-        say_refused(rt, refusing(1, 0, 0, 0, 0));
-        return;
-    }
-    let pairs = matrix_ok(matrix);
-    if pairs == false {
-        say_refused(rt, refusing(2, 0, 0, 0, 0));
+    };
+    if !matrix_ok(matrix) {
+        say_refused(rt, refusing(BAD_MATRIX, 0, 0, 0, 0));
         return;
     }
     report_on(rt, matrix, number, n);
@@ -595,10 +527,8 @@ fn audit_from(rt: &(impl Files + Env + Print + Eprint), matrix: u16, number: usi
 pub fn audit(rt: &(impl Files + Env + Print + Eprint), number: usize, end: usize)
     requires { (number < 900_000) × (end < 900_000) }
 {
-    let given = matrix_at(rt, number);
-    if given == NO_MATRIX {
-        audit_from(rt, FIXED_PAIRS, number, end);
-        return;
+    match matrix_at(rt, number) {
+        Some(matrix) => audit_from(rt, matrix, number + 1, end),
+        None => audit_from(rt, FIXED_PAIRS, number, end),
     }
-    audit_from(rt, given as u16, number + 1, end);
 }

@@ -8,7 +8,7 @@ use native.Mathlib.Omega.{arith}
 use lib.IntN.{ℤ}
 use lib.ListN.{length}
 use borrow.Author.Tests.{eq-eqb, ne_eqb, le-leb, lt-leb}
-use Rattle.printer.specs.declared.Printed.{Printed}
+use Rattle.std.specs.Prelude.{Option}
 use Rattle.printer.specs.Writing.{slice_printed, answer_printed}
 use Rattle.amounts.specs.Amounts.{text}
 use Rattle.audit_input.specs.declared.Answer.{Answer}
@@ -50,7 +50,7 @@ module _ (kinds firsts seconds amounts lines ends tops counts lowests : List ℕ
 
 -- what is printed of the audit's answer
 pub reported : (matrix : ℕ) (kinds firsts seconds amounts lines ends tops : List ℕ) (marks places ahead : ℕ) (r : Answer)
-    → r ≡ audited matrix kinds firsts seconds amounts lines ends marks places ahead → (s : List ℕ) {x : Printed} {t : List ℕ}
+    → r ≡ audited matrix kinds firsts seconds amounts lines ends marks places ahead → (s : List ℕ) {x : Option ℕ} {t : List ℕ}
     → let own = answer_text kinds firsts seconds amounts lines ends tops r in
     let all = report_text matrix kinds firsts seconds amounts lines ends tops marks places ahead in
     (x ≡ answer_printed own s) × (t ≡ slice_printed own s) → (x ≡ answer_printed all s) × (t ≡ slice_printed all s)

@@ -19,7 +19,6 @@ use audit_records::audit_records;
 use audit_table::put_table;
 use audit_witness::refusals::put_refused;
 use audit_witness::witness::{put_posting, put_witness};
-use printer::Printed;
 use printer::print::{put_number, put_text};
 use sets::wide;
 
@@ -218,7 +217,7 @@ fn print_answer(
     figures: &[i64],
     r: Answer,
     out: &mut [u8],
-) -> Printed
+) -> Option<usize>
     requires { Prepared kinds.now firsts.now seconds.now amounts.now lines.now ends.now tops.now counts.now lowests.now figures.now r }
     ensures value { result ≡ answer_printed (answer_text kinds.now firsts.now seconds.now amounts.now lines.now ends.now tops.now r) out.old }
     ensures out_after { out.new ≡ slice_printed (answer_text kinds.now firsts.now seconds.now amounts.now lines.now ends.now tops.now r) out.old }
@@ -239,12 +238,12 @@ fn print_answer(
         &mut out[0..0],
     );
     if out.len() < needed {
-        return Printed::Short;
+        return None;
     }
     let end = put_answer(
         kinds, firsts, seconds, amounts, lines, ends, tops, counts, lowests, figures, r, 0, out,
     );
-    Printed::Written(end)
+    Some(end)
 }
 
 // What each site lacks, and the figures of all records.
@@ -313,7 +312,7 @@ pub fn report(
     ahead: &mut [u32],
     figures: &mut [i64],
     out: &mut [u8],
-) -> Printed
+) -> Option<usize>
     requires { (length lines.now ≤ 458_759) × (length ends.now ≤ length tops.now) × (448 ≤ length figures.old) }
     ensures value { result ≡ answer_printed (report_text matrix kinds.now firsts.now seconds.now amounts.now lines.now ends.now tops.now (length marks.old) (length places.old) (length ahead.old)) out.old }
     ensures out_after { out.new ≡ slice_printed (report_text matrix kinds.now firsts.now seconds.now amounts.now lines.now ends.now tops.now (length marks.old) (length places.old) (length ahead.old)) out.old }

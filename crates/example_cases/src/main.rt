@@ -5,6 +5,9 @@
 use std::rt::{Env, Files};
 use std::{fs, str};
 
+// How many run files the arguments name.
+const CASES: usize = 8;
+
 // The longest name of a file.
 const PATH: usize = 4096;
 
@@ -25,30 +28,17 @@ fn open_case<R: Files + Env + Eprint>(rt: &R, number: usize) -> Option<R::File> 
     }
 }
 
-fn print_board(rt: &(impl Files + Env + Print + Eprint), number: usize) {
+fn print_case(rt: &(impl Files + Env + Print + Eprint), number: usize) {
     if let Some(mut file) = open_case(rt, number) {
         program::print_from(rt, &mut file);
     }
-}
-
-fn print_statement(rt: &(impl Files + Env + Print + Eprint), number: usize) {
     if let Some(mut file) = open_case(rt, number) {
         program::state_from(rt, &mut file);
     }
 }
 
-fn print_case(rt: &(impl Files + Env + Print + Eprint), number: usize) {
-    print_board(rt, number);
-    print_statement(rt, number);
-}
-
 fn main(rt: HostRuntime) {
-    print_case(&rt, 1);
-    print_case(&rt, 2);
-    print_case(&rt, 3);
-    print_case(&rt, 4);
-    print_case(&rt, 5);
-    print_case(&rt, 6);
-    print_case(&rt, 7);
-    print_case(&rt, 8);
+    for number in 1..=CASES {
+        print_case(&rt, number);
+    }
 }

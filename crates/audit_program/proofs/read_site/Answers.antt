@@ -8,8 +8,8 @@ use Rattle.audit_program.proofs.Lengths.{record_few}
 use Rattle.audit_program.proofs.read_site.Goals as goal
 
 pub overflow_cast-tops : goal.overflow_cast-tops
-overflow_cast-tops g c = omega (arith, top_most (take c.load-loaded.result.length c.load-loaded.new.text), c.top_line.ensures)
+overflow_cast-tops g c = omega (arith, top_most (take c.in-Ok.n c.load.new.text), c.top_line.ensures)
 
 pub returns : goal.returns
 returns g c =
-    omega (arith, record_few (entries (take c.load-loaded.result.length c.load-loaded.new.text)), c.read_record-read.ensures.count_value)
+    omega (arith, record_few (entries (take c.in-Ok.n c.load.new.text)), c.read_record-read.ensures.count_value)

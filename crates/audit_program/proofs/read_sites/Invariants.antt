@@ -1,6 +1,6 @@
 -- The loop's invariant: each site before p brought 65,537 lines at most, and no slice changes its length.
 -- Assumes nothing.
-use Rattle.std.proofs.Common.{◌≤◌, ◌≡◌, ◌*◌, length}
+use Rattle.std.proofs.Common.{◌≤◌, ◌*◌}
 use Rattle.audit_files.specs.Room.{Room}
 use Rattle.audit_program.proofs.read_sites.Given as goal
 

@@ -10,9 +10,9 @@ pub slice_bounds-report-end-2 : goal.slice_bounds-report-end-2
 slice_bounds-report-end-2 g c = count_filled 524_288 0
 
 pub slice_bounds-out-end : goal.slice_bounds-out-end
-slice_bounds-out-end g c = written_within _ _ _ _ _ c.in-Written.is c.report-answer.ensures.value c.report-answer.ensures.out_after
+slice_bounds-out-end g c = written_within _ _ _ _ _ c.in-Some.is c.report-answer.ensures.value c.report-answer.ensures.out_after
 
 pub slice_bounds-write_out-end : goal.slice_bounds-write_out-end
 slice_bounds-write_out-end g c =
-    let h : c.in-Written.count ≤ length c.report-answer.new.out = written_within _ _ _ _ _ c.in-Written.is c.report-answer.ensures.value c.report-answer.ensures.out_after in
-    sym (length-take-le c.in-Written.count c.report-answer.new.out h)
+    let h : c.in-Some.count ≤ length c.report-answer.new.out = written_within _ _ _ _ _ c.in-Some.is c.report-answer.ensures.value c.report-answer.ensures.out_after in
+    sym (length-take-le c.in-Some.count c.report-answer.new.out h)

@@ -1,17 +1,18 @@
 -- `badly_begun` meets its contract.
 -- Assumes nothing.
-use borrow.Author.Tests.{eq-eqb, ne_eqb}
+use native.Mathlib.Omega.{arith}
+use Rattle.std.proofs.lemmas.Bool.Decides.{nat_tests}
 use Rattle.audit_files.specs.Entries.{badly_begun}
 use Rattle.audit_files.proofs.entries.badly_begun.Goals as goal
 
-pub returns-then-n-eq0 : goal.returns-then-n-eq0
+pub returns-then-is_empty : goal.returns-then-is_empty
 unfolding badly_begun
-returns-then-n-eq0 c = rw (eq-eqb _ 0 c.if-n-eq0.true)
+returns-then-is_empty c = grind (arith, nat_tests)
 
-pub returns-then-field-ne48 : goal.returns-then-field-ne48
+pub returns-then-field-eq48 : goal.returns-then-field-eq48
 unfolding badly_begun
-returns-then-field-ne48 c = rw (ne_eqb _ 0 c.if-n-eq0.false, ne_eqb _ 48 c.if-field-ne48.true)
+returns-then-field-eq48 c = grind (arith, nat_tests)
 
-pub returns : goal.returns
+pub returns-else-field-eq48 : goal.returns-else-field-eq48
 unfolding badly_begun
-returns c = rw (ne_eqb _ 0 c.if-n-eq0.false, eq-eqb _ 48 c.if-field-ne48.false)
+returns-else-field-eq48 c = grind (arith, nat_tests)

@@ -1,63 +1,38 @@
--- `number_of` meets its contract. The loop's invariant: the value of the digits passed, from which the others are scanned.
+-- `number_of` meets its contract.
 -- Rests on EntryLaws. Assumes nothing.
-use Prim.Native.Nat.{◌-◌}
-use mathlib.Core.Path.{refl, sym, ◌∙◌}
-use mathlib.Core.Logic.{inl, inr}
+use mathlib.Core.Path.{sym, ◌∙◌}
 use native.Mathlib.Omega.{arith}
 use native.Mathlib.Numerals.{add-one}
-use Rattle.sets.proofs.Truth.{failed, passed}
-use Rattle.audit_files.proofs.EntryLaws.{scan_no_digit, scan_too_large, scan_next, scan_end, is_digit_bounds, number_none, number_scanned}
+use Rattle.std.proofs.Common.{rules, tests}
+use Rattle.audit_files.specs.Entries.{is_digit, number_of}
+use Rattle.audit_files.proofs.EntryLaws.{scan_no_digit, scan_too_large, scan_next, scan_end, number_scanned}
 use Rattle.audit_files.proofs.entries.number_of.Goals as goal
 
-pub returns-then-badly_begun : goal.returns-then-badly_begun
-returns-then-badly_begun c =
-    let v = c.args in
-    (sym (number_none v.most v.field.now (sym c.badly_begun.ensures ∙ c.if-badly_begun.true)), inr refl)
+pub returns-then-badly_begun-clause-value : goal.returns-then-badly_begun-clause-value
+unfolding number_of
+returns-then-badly_begun-clause-value c = search (rules, tests)
 
-pub loop-i-init : goal.loop-i-init
-loop-i-init c =
-    let v = c.args in
-    (omega arith, omega arith, number_scanned v.most v.field.now (sym c.badly_begun.ensures ∙ c.if-badly_begun.false))
+pub loop-byte-init : goal.loop-byte-init
+loop-byte-init c = (omega arith, number_scanned c.args.most c.args.field.now (sym c.badly_begun.ensures ∙ c.if-badly_begun.false))
 
-pub returns-then-digit-eqfalse : goal.returns-then-digit-eqfalse
-returns-then-digit-eqfalse c =
-    let v = c.args in
-    let l = c.loop-i in
-    let more = c.loop-i-test.true in
-    (sym (l.invariant.2 ∙ scan_no_digit v.most l.value v.field.now l.i more (failed c.is_digit-digit.ensures c.if-digit-eqfalse.true)), inr refl)
+pub returns-then-not-is_ascii_digit-clause-value : goal.returns-then-not-is_ascii_digit-clause-value
+unfolding is_digit
+returns-then-not-is_ascii_digit-clause-value c =
+    let l = c.loop-byte in
+    sym (l.invariant.1 ∙ scan_no_digit c.args.most l.value c.args.field.now l.byte-index c.loop-byte-test.true (sym c.is_ascii_digit.ensures.value ∙ c.if-not-is_ascii_digit.true))
 
-pub overflow_mul-value : goal.overflow_mul-value
-overflow_mul-value c = let l = c.loop-i in record { fits = omega (arith, l.invariant.1, c.requires) }
+pub returns-then-most-value-clause-value : goal.returns-then-most-value-clause-value
+returns-then-most-value-clause-value c =
+    let l = c.loop-byte in
+    sym (l.invariant.1 ∙ scan_too_large c.args.most l.value c.args.field.now l.byte-index c.loop-byte-test.true (omega (arith, c.if-most-value.true, c.from.ensures)))
 
-pub overflow_sub-value : goal.overflow_sub-value
-overflow_sub-value c = (is_digit_bounds _ (passed c.is_digit-digit.ensures c.if-digit-eqfalse.false)).0
+pub loop-byte-preserved : goal.loop-byte-preserved
+unfolding is_digit
+loop-byte-preserved c =
+    let l = c.loop-byte in
+    (c.if-most-value.false, rw (c.from.ensures, add-one l.byte-index) (l.invariant.1 ∙ scan_next c.args.most l.value c.args.field.now l.byte-index c.loop-byte-test.true (sym c.is_ascii_digit.ensures.value ∙ c.if-not-is_ascii_digit.false) (omega (arith, c.if-most-value.false, c.from.ensures))))
 
-pub overflow_cast-value : goal.overflow_cast-value
-overflow_cast-value c = let h = is_digit_bounds _ (passed c.is_digit-digit.ensures c.if-digit-eqfalse.false) in record { fits = omega (arith, h.1) }
-
-pub overflow_add-value : goal.overflow_add-value
-overflow_add-value c =
-    let l = c.loop-i in
-    let h = is_digit_bounds _ (passed c.is_digit-digit.ensures c.if-digit-eqfalse.false) in
-    record { fits = omega (arith, l.invariant.1, c.requires, h.1) }
-
-pub returns-then-most-value : goal.returns-then-most-value
-returns-then-most-value c =
-    let v = c.args in
-    let l = c.loop-i in
-    let more = c.loop-i-test.true in
-    (sym (l.invariant.2 ∙ scan_too_large v.most l.value v.field.now l.i more c.if-most-value.true), inr refl)
-
-pub loop-i-preserved : goal.loop-i-preserved
-loop-i-preserved c =
-    let v = c.args in
-    let l = c.loop-i in
-    let more = c.loop-i-test.true in
-    let digit = passed c.is_digit-digit.ensures c.if-digit-eqfalse.false in
-    (omega (arith, more), c.if-most-value.false, rw (add-one l.i) (l.invariant.2 ∙ scan_next v.most l.value v.field.now l.i more digit c.if-most-value.false))
-
-pub returns : goal.returns
-returns c =
-    let v = c.args in
-    let l = c.loop-i in
-    (sym (l.invariant.2 ∙ scan_end v.most l.value v.field.now l.i c.loop-i-test.false), inl l.invariant.1)
+pub returns-clause-value : goal.returns-clause-value
+returns-clause-value c =
+    let l = c.loop-byte in
+    sym (l.invariant.1 ∙ scan_end c.args.most l.value c.args.field.now l.byte-index (omega (arith, c.loop-byte-test.false)))

@@ -1,18 +1,17 @@
 -- `keep` meets its contract.
 -- Assumes nothing.
-use borrow.Author.Tests.{eq-eqb, ne_eqb}
+use Rattle.std.proofs.Common.{rules, tests}
 use Rattle.audit_files.specs.Files.{kept, keeps, where_is}
-use Rattle.sets.proofs.Truth.{failed, passed}
 use Rattle.audit_files.proofs.files.keep.Goals as goal
 
-pub returns-then-e-ne-WHOLE : goal.returns-then-e-ne-WHOLE
-unfolding kept keeps
-returns-then-e-ne-WHOLE c = rw (ne_eqb c.args.e.form 2 c.if-e-ne-WHOLE.true)
-
-pub returns-then-free-eqfalse : goal.returns-then-free-eqfalse
-unfolding kept keeps
-returns-then-free-eqfalse c = rw (eq-eqb c.args.e.form 2 c.if-e-ne-WHOLE.false, failed c.unused-free.ensures c.if-free-eqfalse.true)
-
-pub returns : goal.returns
+pub returns-in_default : goal.returns-in_default
 unfolding kept keeps where_is
-returns c = rw (eq-eqb c.args.e.form 2 c.if-e-ne-WHOLE.false, passed c.unused-free.ensures c.if-free-eqfalse.false)
+returns-in_default c = search (rules, tests)
+
+pub returns-then-unused : goal.returns-then-unused
+unfolding kept keeps where_is
+returns-then-unused c = search (rules, tests)
+
+pub returns-else-unused : goal.returns-else-unused
+unfolding kept keeps where_is
+returns-else-unused c = search (rules, tests)

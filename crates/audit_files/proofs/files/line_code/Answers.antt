@@ -1,32 +1,25 @@
 -- `line_code` meets its contract.
 -- Assumes nothing.
-use mathlib.Core.Path.{sym, ◌∙◌}
-use borrow.Author.Tests.{eq-eqb, ne_eqb}
-use Rattle.audit_files.specs.Files.{line_code}
+use Rattle.std.proofs.Common.{rules, tests}
+use Rattle.audit_files.specs.Files.{line_code, agrees}
 use Rattle.audit_files.proofs.files.line_code.Goals as goal
 
-pub returns-then-e-eq0 : goal.returns-then-e-eq0
-unfolding line_code
-returns-then-e-eq0 c = rw (eq-eqb c.args.e.form 0 c.if-e-eq0.true)
+pub returns-in-Malformed : goal.returns-in-Malformed
+unfolding line_code agrees
+returns-in-Malformed c = search (rules, tests)
 
 pub returns-then-unused : goal.returns-then-unused
-unfolding line_code
-returns-then-unused c = rw (ne_eqb c.args.e.form 0 c.if-e-eq0.false, sym c.unused.ensures ∙ c.if-unused.true)
+unfolding line_code agrees
+returns-then-unused c = search (rules, tests)
 
-pub returns-then-e-ne-WHOLE : goal.returns-then-e-ne-WHOLE
-unfolding line_code
-returns-then-e-ne-WHOLE c =
-    let v = c.args in
-    rw (ne_eqb v.e.form 0 c.if-e-eq0.false, sym c.unused.ensures ∙ c.if-unused.false, ne_eqb v.e.form 2 c.if-e-ne-WHOLE.true)
+pub returns-in_default-e : goal.returns-in_default-e
+unfolding line_code agrees
+returns-in_default-e c = search (rules, tests)
 
-pub returns-then-agrees : goal.returns-then-agrees
-unfolding line_code
-returns-then-agrees c =
-    let v = c.args in
-    rw (ne_eqb v.e.form 0 c.if-e-eq0.false, sym c.unused.ensures ∙ c.if-unused.false, eq-eqb v.e.form 2 c.if-e-ne-WHOLE.false, sym c.agrees.ensures ∙ c.if-agrees.true)
+pub returns-then-amounts-x : goal.returns-then-amounts-x
+unfolding line_code agrees
+returns-then-amounts-x c = search (rules, tests)
 
-pub returns : goal.returns
-unfolding line_code
-returns c =
-    let v = c.args in
-    rw (ne_eqb v.e.form 0 c.if-e-eq0.false, sym c.unused.ensures ∙ c.if-unused.false, eq-eqb v.e.form 2 c.if-e-ne-WHOLE.false, sym c.agrees.ensures ∙ c.if-agrees.false)
+pub returns-else-kinds-x : goal.returns-else-kinds-x
+unfolding line_code agrees
+returns-else-kinds-x c = search (rules, tests)

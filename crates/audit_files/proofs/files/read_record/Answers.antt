@@ -1,45 +1,39 @@
 -- `read_record` meets its contract.
--- Assumes nothing.
-use Prim.Native.Nat.{◌-◌}
-use mathlib.Core.Path.{◌∙◌}
-use native.Mathlib.Omega.{arith}
+-- Rests on LineLaws. Assumes nothing.
+use mathlib.Core.Path.{ap, ◌∙◌}
+use Rattle.audit_files.specs.Entries.{entry_of}
 use Rattle.audit_files.specs.Steps.{store}
+use Rattle.audit_files.proofs.FileLaws.{past_shorter, some_left, none_left, below_is}
 use Rattle.audit_files.proofs.LineLaws.{reading_start, reading_next, reading_refused, reading_count, reading_lines}
 use Rattle.audit_files.proofs.files.read_record.Goals as goal
 
-pub loop-at-init : goal.loop-at-init
-loop-at-init c =
+pub loop-rest-init : goal.loop-rest-init
+loop-rest-init c =
     let v = c.args in
-    reading_start (store v.kinds.now v.firsts.now v.seconds.now v.amounts.now v.wheres.now) v.file v.text.now v.lines.now v.from c.refusing-refused.ensures c.top_line-line.ensures c.top_place-at.ensures
+    reading_start (store v.kinds.now v.firsts.now v.seconds.now v.amounts.now v.wheres.now) v.file v.text.now v.lines.now v.from c.refusing-refused.ensures c.top_line-line.ensures (below_is v.text.now _ c.below_heading-rest.ensures)
 
-pub said_at-said-requires : goal.said_at-said-requires
-said_at-said-requires c = c.loop-at-test.true
+pub loop-rest-smaller : goal.loop-rest-smaller
+loop-rest-smaller c =
+    let rest = c.loop-rest.rest.now in
+    rw c.first_line.ensures.behind (past_shorter rest (some_left rest c.loop-rest-test.ensures))
 
-pub judge_line-next-requires : goal.judge_line-next-requires
-judge_line-next-requires c = c.requires.0
-
-pub note_line-count-requires : goal.note_line-count-requires
-note_line-count-requires c = omega (arith, c.loop-at.invariant.long, c.requires.1)
-
-pub overflow_add-line : goal.overflow_add-line
-overflow_add-line c = omega (arith, c.loop-at.invariant.few, c.loop-at-test.true, c.requires.2)
-
-pub loop-at-smaller : goal.loop-at-smaller
-loop-at-smaller c = omega (arith, c.said_at-said.ensures.further, c.loop-at-test.true)
-
-pub loop-at-preserved : goal.loop-at-preserved
-loop-at-preserved c =
+pub loop-rest-preserved : goal.loop-rest-preserved
+loop-rest-preserved c =
     let v = c.args in
     let note = c.note_line-count.ensures in
-    reading_next (store v.kinds.now v.firsts.now v.seconds.now v.amounts.now v.wheres.now) v.file v.text.now v.lines.now v.from c.loop-at.invariant
-    c.said_at-said.result.entry c.loop-at-test.true c.said_at-said.ensures
-    note.value note.lines_after (c.lower-refused.ensures ∙ rw c.judge_line-next.ensures)
-
-pub shape_of-lines : goal.shape_of-lines
-shape_of-lines c = c.loop-at.invariant.long
+    let number = c.number.ensures in
+    reading_next (store v.kinds.now v.firsts.now v.seconds.now v.amounts.now v.wheres.now) v.file v.text.now v.lines.now v.from c.loop-rest.invariant
+    c.entry_of-e.result (some_left c.loop-rest.rest.now c.loop-rest-test.ensures) (c.entry_of-e.ensures ∙ ap entry_of c.first_line.ensures.line) c.first_line.ensures.behind
+    note.value (rw number at note.lines_after) (c.lower-refused.ensures ∙ rw c.judge_line-next.ensures)
 
 pub returns : goal.returns
 returns c =
     let v = c.args in
-    let so_far = c.loop-at.invariant in
-    let ended = c.loop-at-test.false in record { refused_value = reading_refused (store v.kinds.now v.firsts.now v.seconds.now v.amounts.now v.wheres.now) v.file v.text.now v.lines.now v.from so_far ended; count_value = reading_count (store v.kinds.now v.firsts.now v.seconds.now v.amounts.now v.wheres.now) v.file v.text.now v.lines.now v.from so_far ended; lines_after = reading_lines (store v.kinds.now v.firsts.now v.seconds.now v.amounts.now v.wheres.now) v.file v.text.now v.lines.now v.from so_far ended c.requires.1 }
+    let s = store v.kinds.now v.firsts.now v.seconds.now v.amounts.now v.wheres.now in
+    let so_far = c.loop-rest.invariant in
+    let done = none_left c.loop-rest.rest.now c.loop-rest-test.ensures in
+    record {
+      refused_value = reading_refused s v.file v.text.now v.lines.now v.from so_far done;
+      count_value = reading_count s v.file v.text.now v.lines.now v.from so_far done;
+      lines_after = reading_lines s v.file v.text.now v.lines.now v.from so_far done c.requires.1;
+    }

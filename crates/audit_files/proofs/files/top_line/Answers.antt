@@ -1,13 +1,13 @@
 -- `top_line` meets its contract.
 -- Assumes nothing.
-use mathlib.Core.Path.{sym, ◌∙◌}
+use Rattle.std.proofs.Common.{rules, tests}
 use Rattle.audit_files.specs.Entries.{top_line}
 use Rattle.audit_files.proofs.files.top_line.Goals as goal
 
 pub returns-then-headed : goal.returns-then-headed
 unfolding top_line
-returns-then-headed c = rw (sym c.headed.ensures ∙ c.if-headed.true)
+returns-then-headed c = search (rules, tests)
 
-pub returns : goal.returns
+pub returns-else-headed : goal.returns-else-headed
 unfolding top_line
-returns c = rw (sym c.headed.ensures ∙ c.if-headed.false)
+returns-else-headed c = search (rules, tests)
