@@ -10,6 +10,8 @@ use lib.Dec.{eqb, ltb, leb-suc-suc}
 use lib.ListN.{length, get_or, drop, drop_of_length-le}
 use lib.Seq.{drop-cons}
 use borrow.Author.Tests.{lt-ltb, le-ltb, ltb-true, ltb-false}
+use Rattle.std.specs.List.{position_or_len}
+use Rattle.std.proofs.lemmas.List.Recursion.{is_position_or_len}
 use Rattle.broadcast.specs.Lists.{mem}
 use Rattle.broadcast.proofs.Tests.{test, same_or, eqb_yes, eqb_no}
 use Rattle.audit_rule.specs.Audit.{ahead_of, leads_at, lacks_at, up_to}
@@ -25,6 +27,11 @@ place_at_most x (z ∷ l) = elim (same_or z x) [
   | inl e ↦ rw (eqb_yes z x e) (omega arith)
   | inr d ↦ let next = place_at_most x l in rw (eqb_no z x d) (omega (arith, next))
 ]
+
+-- the place is the first index at which x stands
+pub place_is : (x : ℕ) (l : List ℕ) → place_of x l ≡ position_or_len (λ z. eqb z x) l
+unfolding place_of
+place_is x l = is_position_or_len (λ l. place_of x l) (λ z. eqb z x) refl (λ z l. elim (same_or z x) [ inl e ↦ rw (eqb_yes z x e) | inr d ↦ rw (eqb_no z x d) (omega arith) ]) l
 
 -- what has a place before the end is there
 pub place_mem : (x : ℕ) (l : List ℕ) → mem x l ≡ ltb (place_of x l) (length l)

@@ -3,7 +3,7 @@
 use Prim.Native.Nat.{ℕ, zero, suc, ◌+◌, ◌*◌, ◌<◌, ◌≤◌, max}
 use mathlib.Core.Path.{◌≡◌, refl, sym, ap, ◌∙◌, subst}
 use mathlib.Core.Logic.{inl, inr, ◌≢◌}
-use mathlib.Core.Bool.{true, cond}
+use mathlib.Core.Bool.{Bool, true, false}
 use mathlib.Core.List.{List, [], ◌∷◌, ◌++◌, append-nil}
 use native.Mathlib.Omega.{arith}
 use native.Mathlib.Decide.{ℕ_discrete}
@@ -127,37 +127,19 @@ module _ {matrix : ℕ} {kinds firsts seconds lines : List ℕ} {seen : ℕ} {to
     ];
   }
 
-  pub going_again : {next : ℕ} {totals' places' ahead' counts' highest' : List ℕ}
-      → next ≡ cond (fits_now matrix y kind a b given counts highest totals places ahead) (seen_after places y given) 0 → next ≢ 0
+  pub going_again : {ok : Bool} {given' : ℕ} {totals' places' ahead' counts' highest' : List ℕ}
+      → ok ≡ fits_now matrix y kind a b given counts highest totals places ahead → ok ≡ true → given' ≡ seen_after places y given
       → places' ≡ places_after places y given → totals' ≡ totals_after places y kind a b totals → ahead' ≡ ahead_after places y a b totals ahead
-      → counts' ≡ cond (fits_now matrix y kind a b given counts highest totals places ahead) (counted counts kind a b) counts
-      → highest' ≡ cond (fits_now matrix y kind a b given counts highest totals places ahead) (reached highest kind a b (get_or (places_after places y given) y 0)) highest
-      → Going matrix kinds firsts seconds lines seen totals₀ places₀ ahead₀ totals' places' ahead' counts' highest' next (i + 1)
-  going_again {next} {totals'} {places'} {ahead'} {counts'} {highest'} en some ep et ea ec eh = elim (test (fits_now matrix y kind a b given counts highest totals places ahead)) [
-    | inr f ↦ absurd (some (en ∙ rw f))
-    | inl u ↦
-        let n : next ≡ seen_after places y given = en ∙ rw u in
-        let c : counts' ≡ counted counts kind a b = ec ∙ rw u in
-        let h : highest' ≡ reached highest kind a b (get_or (places_after places y given) y 0) = eh ∙ rw u in
-        rw (n, ep, et, ea, c, h) (going_next u)
-  ]
+      → counts' ≡ counted counts kind a b → highest' ≡ reached highest kind a b (get_or (places_after places y given) y 0)
+      → Going matrix kinds firsts seconds lines seen totals₀ places₀ ahead₀ totals' places' ahead' counts' highest' given' (i + 1)
+  going_again is fits n ep et ea c h = rw (n, ep, et, ea, c, h) (going_next (sym is ∙ fits))
 
-  -- after a line the last place given is not 0
-  given_some : (t : Table) (read : List ℕ) → Rows t kinds firsts seconds (length kinds) → NotedIn t read places₀ seen totals₀ ahead₀ → 1 ≤ seen_after places y given
-  given_some t read rows n =
-      let k = note_one t y kind a b (y_row t rows) (read ++ take i lines) places given totals ahead (g.notes t read rows n) y_room y_ahead g.full_totals in
-      let p = k.placed y (in_right y (read ++ take i lines) (y ∷ []) (inl refl)) in
-      let m = k.most y in omega (arith, p, m)
-
-  pub going_breaks : {next : ℕ} → next ≡ cond (fits_now matrix y kind a b given counts highest totals places ahead) (seen_after places y given) 0 → next ≡ 0
+  pub going_breaks : {ok : Bool} → ok ≡ fits_now matrix y kind a b given counts highest totals places ahead → ok ≡ false
       → (t : Table) (read : List ℕ) → Rows t kinds firsts seconds (length kinds) → NotedIn t read places₀ seen totals₀ ahead₀ → Broken matrix t read lines i
-  going_breaks {next} is none t read rows n = record {
+  going_breaks is breaks t read rows n = record {
     within = more;
     fit = g.fit t read rows n;
-    breaks = elim (test (fits_now matrix y kind a b given counts highest totals places ahead)) [
-      | inl u ↦ let e : next ≡ seen_after places y given = is ∙ rw u in let l = given_some t read rows n in absurd (omega (arith, e, none, l))
-      | inr f ↦ sym (test_is t read rows n) ∙ f
-    ];
+    breaks = sym (test_is t read rows n) ∙ sym is ∙ breaks;
   }
 
 pub zeros_at : (n c : ℕ) → ◌≡◌ {A = ℕ} (get_or (replicate n 0) c 0) 0

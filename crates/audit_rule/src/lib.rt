@@ -1,3 +1,41 @@
-// Records that were handed over: whether they agree, and a pair of postings that shows it where they do not. Theory, with no function.
-// Rests on broadcast's lists and on posting.
+// Records that were handed over: the postings and the lines in slices, whether the records agree, and a pair of postings that shows it where
+// they do not. Rests on broadcast's lists and on posting.
 #![tactic(auto)]
+
+ghost use Rattle.std.specs.Prelude.{◌≡◌, ◌<◌, length};
+ghost use Rattle.audit_rule.specs.Handed.{start_of, record_of};
+ghost use Rattle.audit_rule.specs.Needs.{Rising};
+
+// Postings by number, field by field, as they are handed over: a posting's kind, its accounts and its amount.
+#[derive(Clone, Copy)]
+pub struct Postings<'a> {
+    pub kinds: &'a [u8],
+    pub firsts: &'a [u8],
+    pub seconds: &'a [u8],
+    pub amounts: &'a [u32],
+}
+
+// The records of sites, one behind the other: site p's lines end at `ends[p]`.
+#[derive(Clone, Copy)]
+pub struct Records<'a> {
+    pub lines: &'a [u16],
+    pub ends: &'a [usize],
+}
+
+impl<'a> Records<'a> {
+    // Where site p's lines begin: where those of the site before it end.
+    pub fn start_of(self, p: usize) -> usize
+        requires { p < length self.ends.now }
+        ensures { result ≡ start_of self.entry.ends.now p }
+    {
+        if p == 0 { 0 } else { self.ends[p - 1] }
+    }
+
+    // Site p's record.
+    pub fn record_of(self, p: usize) -> &'a [u16]
+        requires { Rising self.lines.now self.ends.now × (p < length self.ends.now) }
+        ensures { result.now ≡ record_of self.entry.lines.now self.entry.ends.now p }
+    {
+        &self.lines[self.start_of(p)..self.ends[p]]
+    }
+}
