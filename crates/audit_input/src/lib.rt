@@ -48,6 +48,19 @@ pub struct Answer {
     pub there: usize,
 }
 
+// The records agree, or no refusal applies: no place is named.
+pub const AGREEMENT: Answer = Answer {
+    code: 0,
+    site: 0,
+    line: 0,
+    posting: 0,
+    above: 0,
+    first: 0,
+    second: 0,
+    here: 0,
+    there: 0,
+};
+
 // A line of a site's record.
 #[derive(Clone, Copy)]
 pub struct Spot {
@@ -65,10 +78,7 @@ fn refused(why: Refusal, site: usize, line: usize, posting: usize, above: usize)
         line,
         posting,
         above,
-        first: 0,
-        second: 0,
-        here: 0,
-        there: 0,
+        ..AGREEMENT
     }
 }
 
