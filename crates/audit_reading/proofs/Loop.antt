@@ -2,7 +2,7 @@
 -- Rests on Meaning. Assumes nothing.
 use Prim.Native.Nat.{ℕ, zero, suc, ◌+◌, ◌*◌, ◌<◌, ◌≤◌, max}
 use mathlib.Core.Path.{◌≡◌, refl, sym, ap, ◌∙◌, subst}
-use mathlib.Core.Logic.{inl, inr, ◌≢◌}
+use mathlib.Core.Logic.{inl}
 use mathlib.Core.Bool.{Bool, true, false}
 use mathlib.Core.List.{List, [], ◌∷◌, ◌++◌, append-nil}
 use native.Mathlib.Omega.{arith}
@@ -11,14 +11,12 @@ use native.Mathlib.Numerals.{add-one}
 use lib.ListN.{length, get_or, take, replicate, length-set, length-replicate}
 use lib.Seq.{take-suc, take_all}
 use borrow.Author.Tests.{eq-eqb, ne_eqb}
-use Rattle.sets.proofs.Truth.{test}
 use Rattle.posting.specs.declared.Table.{Table}
-use Rattle.broadcast.proofs.Lists.{in_right}
 use Rattle.audit_rule.specs.Reading.{row_in, line_fits}
 use Rattle.audit_reading.specs.Kept.{classes, Rows, Known, NotedIn, TalliedIn, Readable, line_ok, Whole, Broken, AtMost, own_class, counted, reached, four_put, places_after, seen_after, totals_after, ahead_after, fits_now}
 use Rattle.audit_reading.proofs.Bumps.{changed_length, changed_most}
 use Rattle.audit_reading.proofs.RowLaws.{Row, row_is}
-use Rattle.audit_reading.proofs.Meaning.{line_test, line_noted, line_tallied, note_one, four_length}
+use Rattle.audit_reading.proofs.Meaning.{line_test, line_noted, line_tallied, four_length}
 
 -- ---- lengths and bounds
 
@@ -81,7 +79,7 @@ module _ {matrix : ℕ} {kinds firsts seconds lines : List ℕ} {seen : ℕ} {to
   abbrev b : ℕ
   b = row_in kind (get_or firsts y 0) (get_or seconds y 0) (get_or seconds y 0)
 
-  y_known : Known kinds firsts seconds places₀ ahead₀ y
+  pub y_known : Known kinds firsts seconds places₀ ahead₀ y
   y_known = subst (Known kinds firsts seconds places₀ ahead₀) (sym y-is) (r.known i more)
 
   y_row : (t : Table) → Rows t kinds firsts seconds (length kinds) → Row t y kind a b

@@ -10,7 +10,7 @@ use native.Mathlib.Numerals.{add-one}
 use lib.ListN.{length, get_or, replicate, length-replicate}
 use Rattle.posting.specs.declared.Table.{Table}
 use Rattle.audit_rule.specs.Audit.{joined}
-use Rattle.audit_rule.specs.Handed.{start_of, part, record_of}
+use Rattle.audit_rule.specs.Handed.{start_of, record_of}
 use Rattle.audit_rule.proofs.Handed.{part_length, part_at}
 use Rattle.audit_reading.specs.Kept.{classes, Rows, Known, NotedIn, Readable, ReadSays, AtMost}
 use Rattle.audit_reading.specs.Sites.{site_ok, Auditable, FirstUnfit}

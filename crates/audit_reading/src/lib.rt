@@ -60,15 +60,7 @@ fn fits_class(
 }
 
 // Whether a line fits the four classes of a row; what stood ahead of it begins at `at`.
-fn fits(
-    matrix: u16,
-    kind: u8,
-    row: u8,
-    place: u32,
-    at: usize,
-    tally: &Tally,
-    ahead: &[u32],
-) -> bool
+fn fits(matrix: u16, kind: u8, row: u8, place: u32, at: usize, tally: &Tally, ahead: &[u32]) -> bool
     requires { (row < 17) × (at + 4 ≤ length ahead.now) }
     ensures { result ≡ fits_classes matrix kind row place at tally.now.counts tally.now.highest ahead.now }
 {

@@ -1,6 +1,6 @@
 -- The loop's invariant: the rows so far are changed.
 -- Rests on Bumps. Assumes nothing.
-use Rattle.std.proofs.Common.{◌≡◌, ◌≤◌, ◌+◌, max}
+use Rattle.std.proofs.Common.{◌≡◌, ◌+◌}
 use Rattle.audit_reading.specs.Kept.{changed}
 use Rattle.audit_reading.proofs.Bumps.{rows_to}
 use Rattle.audit_reading.proofs.count_all.Given as goal
