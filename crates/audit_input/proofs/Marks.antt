@@ -18,7 +18,7 @@ use Rattle.broadcast.specs.Counts.{bit}
 use Rattle.std.specs.Prelude.{Some, None}
 use Rattle.audit_rule.specs.Needs.{Numbered}
 use Rattle.audit_rule.specs.Searches.{if_below}
-use Rattle.audit_rule.proofs.Seeking.{Seeking, seek_start, seek_next, seek_some, seek_none}
+use Rattle.audit_rule.proofs.Seeking.{Seeking, seek_next, seek_some, seek_none}
 use Rattle.audit_input.specs.Input.{repeated_line}
 
 mem_snoc : (x y : ℕ) (l : List ℕ) → mem x (l ++ (y ∷ [])) ≡ (mem x l || eqb x y)
@@ -36,9 +36,6 @@ module _ (lines : List ℕ) (count : ℕ) where
     pub long : length marks ≡ count
     pub seeking : Seeking repeats (length lines) i
     pub are : (x : ℕ) → x < count → get_or marks x 0 ≡ bit (mem x (take i lines))
-
-  pub marking_start : (marks : List ℕ) → length marks ≡ count → ((x : ℕ) → get_or marks x 0 ≡ 0) → Marking marks 0
-  marking_start marks long zeros = record { below = omega arith; long = long; seeking = seek_start; are = λ x h. zeros x }
 
   module _ (numbered : Numbered lines count) (marks : List ℕ) (i : ℕ) (g : Marking marks i) (more : i < length lines) where
     abbrev here : ℕ

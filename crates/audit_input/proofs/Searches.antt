@@ -1,6 +1,6 @@
 -- The search over the sites for the first record that has a line of some sort, and the spot that it finds.
 -- Rests on audit_rule's Seeking. Assumes nothing.
-use Prim.Native.Nat.{ℕ, ◌+◌, ◌-◌, ◌<◌, ◌≤◌}
+use Prim.Native.Nat.{ℕ, ◌+◌, ◌<◌, ◌≤◌}
 use mathlib.Core.Path.{◌≡◌, sym}
 use mathlib.Core.Logic.{inl, inr}
 use mathlib.Core.Bool.{Bool}
@@ -8,13 +8,11 @@ use mathlib.Core.List.{List}
 use native.Mathlib.Omega.{arith}
 use native.Mathlib.Decide.{dec_lt}
 use lib.Dec.{ltb}
-use lib.ListN.{length, get_or}
+use lib.ListN.{length}
 use borrow.Author.Tests.{lt-ltb, le-ltb, ltb-true, ltb-false}
 use Rattle.sets.proofs.Truth.{never, test}
 use Rattle.audit_rule.specs.Audit.{lowest}
-use Rattle.audit_rule.specs.Handed.{start_of, record_of}
-use Rattle.audit_rule.specs.Needs.{Rising}
-use Rattle.audit_rule.proofs.Handed.{part_length, part_at}
+use Rattle.audit_rule.specs.Handed.{record_of}
 use Rattle.audit_rule.proofs.Findings.{lowest_cases}
 use Rattle.audit_rule.specs.Searches.{if_below}
 use Rattle.audit_rule.proofs.Seeking.{Seeking, seek_here, seek_next, seek_end}
@@ -51,17 +49,6 @@ module _ (line : List ℕ → ℕ) (lines ends : List ℕ) where
         rw (sym e, le-ltb p (length ends) end)
 
 -- ---- a spot
-
-module _ (lines ends : List ℕ) (r : Rising lines ends) (p : ℕ) (in-sites : p < length ends) where
-  pub record_long : length (record_of lines ends p) ≡ get_or ends p 0 - start_of ends p
-  record_long = part_length (start_of ends p) (get_or ends p 0) lines (r.within p in-sites)
-
-  -- a line of a site's record is one of all lines
-  pub line_within : (i : ℕ) → i < length (record_of lines ends p) → start_of ends p + i < length lines
-  line_within i h = let n = record_long in let w = r.within p in-sites in let o = r.rising p in-sites in omega (arith, n, w, o, h)
-
-  pub line_at : (i : ℕ) → i < length (record_of lines ends p) → get_or lines (start_of ends p + i) 0 ≡ get_or (record_of lines ends p) i 0
-  line_at i h = let n = record_long in sym (part_at (start_of ends p) (get_or ends p 0) lines i (omega (arith, n, h)))
 
 -- the line of a spot that was found is one of its record
 pub spot_line : (line : List ℕ → ℕ) (n : ℕ) (records : ℕ → List ℕ) → (first_spot line n records).site < n

@@ -11,7 +11,7 @@ ghost use Rattle.audit_pair.specs.Pair.{Fields};
 ghost use Rattle.audit_input.specs.Input.{refusal, sites_ok, matrix_ok, ends_ok, fields_long, lent_long, unused, unlawful, unknown_line, repeated_line, first_spot, number_at, above_at, sizes_code, lines_judged, judged};
 ghost use Rattle.audit_input.specs.Refusals.{number_of, code_of, judgement, found_spot};
 
-use audit_pair::{place_of, posting_at};
+use audit_pair::place_of;
 use audit_rule::{Postings, Records};
 use books::SITES;
 
@@ -19,7 +19,7 @@ use books::SITES;
 pub const NO_KIND: u8 = 255;
 
 // The most postings.
-pub const MOST_POSTINGS: usize = 65_536;
+pub const POSTINGS: usize = 65_536;
 
 // The refusals, by their numbers.
 #[derive(Clone, Copy, Debug, PartialEq, Eq)]
@@ -30,6 +30,15 @@ pub enum Refusal {
     Fields = 5,
     Unknown = 7,
     Twice = 9,
+}
+
+impl Refusal {
+    // Its number, as it is answered to other languages.
+    pub fn number(self) -> u8
+        ensures { result ≡ number_of self }
+    {
+        self as u8
+    }
 }
 
 // What the audit answers. The code is 0 if the records agree, the number of a refusal up to 9, or 10 to 12 for a pair (audit_pair's constants).
@@ -73,7 +82,7 @@ fn refused(why: Refusal, site: usize, line: usize, posting: usize, above: usize)
     ensures { result ≡ refusal (number_of why) site line posting above }
 {
     Answer {
-        code: why as u8,
+        code: why.number(),
         site,
         line,
         posting,
@@ -118,7 +127,7 @@ pub fn fields_long(postings: Postings) -> bool
     ensures { result ≡ fields_long (length postings.entry.kinds.now) (length postings.entry.firsts.now) (length postings.entry.seconds.now) (length postings.entry.amounts.now) }
 {
     let n = postings.kinds.len();
-    n <= MOST_POSTINGS
+    n <= POSTINGS
         && postings.firsts.len() == n
         && postings.seconds.len() == n
         && postings.amounts.len() == n
@@ -147,7 +156,7 @@ fn unlawful(postings: Postings, x: usize) -> bool
     requires { Fields postings.kinds.now postings.firsts.now postings.seconds.now postings.amounts.now × (x < length postings.kinds.now) }
     ensures { result ≡ unlawful postings.entry.kinds.now postings.entry.firsts.now postings.entry.seconds.now postings.entry.amounts.now x }
 {
-    postings.kinds[x] != NO_KIND && !posting_at(postings, x).fields_ok()
+    postings.kinds[x] != NO_KIND && !postings.posting_at(x).fields_ok()
 }
 
 // The lowest number whose posting is unlawful.

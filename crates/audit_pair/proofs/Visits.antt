@@ -11,7 +11,7 @@ use Rattle.audit_rule.specs.Handed.{record_of}
 use Rattle.audit_pair.specs.declared.Sites.{Sites}
 use Rattle.audit_pair.specs.Pair.{stands, with_site, sites_of}
 use Rattle.audit_pair.proofs.Places.{leads_forth, leads_back, lacks_first, lacks_second}
-use Rattle.audit_pair.proofs.Several.{Left, left_start, left_next, left_end}
+use Rattle.audit_pair.proofs.Several.{Left, left_next, left_end}
 
 -- the four searches, after p sites
 pub record Visiting (lines ends : List ℕ) (x y : ℕ) (sites : Sites) (p : ℕ) : Type 0 where
@@ -20,15 +20,6 @@ pub record Visiting (lines ends : List ℕ) (x y : ℕ) (sites : Sites) (p : ℕ
   pub back_left : Left (leads_at (length ends) (record_of lines ends) y x) (length ends) sites.back p
   pub first_left : Left (lacks_at (length ends) (record_of lines ends) y x) (length ends) sites.first p
   pub second_left : Left (lacks_at (length ends) (record_of lines ends) x y) (length ends) sites.second p
-
-pub visit_start : {lines ends : List ℕ} {x y : ℕ} → Visiting lines ends x y (record { forth = length ends; back = length ends; first = length ends; second = length ends }) 0
-visit_start = record {
-  below = omega arith;
-  forth_left = left_start;
-  back_left = left_start;
-  first_left = left_start;
-  second_left = left_start;
-}
 
 module _ {lines ends : List ℕ} {x y : ℕ} {sites : Sites} {p : ℕ} (g : Visiting lines ends x y sites p) where
   abbrev n : ℕ

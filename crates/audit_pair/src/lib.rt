@@ -6,14 +6,13 @@ ghost use Rattle.std.specs.Prelude.{◌≡◌, true, ◌&&◌, ℕ, ◌<◌, ◌
 ghost use Rattle.posting.specs.Conflicts.{conflict};
 ghost use Rattle.audit_rule.specs.Audit.{finding, ahead_of};
 ghost use Rattle.audit_rule.specs.Searches.{lowest_below};
-ghost use Rattle.audit_rule.specs.Handed.{posting_at, start_of, table_of, record_of, place_of};
+ghost use Rattle.audit_rule.specs.Handed.{start_of, table_of, record_of, place_of};
 ghost use Rattle.audit_rule.specs.Needs.{Rising, Numbered};
 ghost use Rattle.audit_pair.specs.Pair.{stands, taken, with_site, sites_of, differing, raised, mark_of, one_sided, mark_differs, Fields, Markable};
 ghost use Rattle.audit_pair.specs.Standings.{code_of};
 ghost use Rattle.audit_pair.specs.Numbers.{found};
 
 use audit_rule::{Postings, Records};
-use posting::Posting;
 
 // What is answered of a pair: crossed, if site `here` has `first` ahead of `second` and site `there` has them the other way round; missing, if
 // `here` has `second` without `first`, which `there` has ahead of it; apart, if `here` has `first`, `there` has `second`, and no site has both.
@@ -222,20 +221,6 @@ fn mark_both(own: &[u16], lines: &[u16], y: u16, marks: &mut [u8])
     mark_ahead(lines, y, IN_ALL, marks);
 }
 
-// The posting with number x, from its fields.
-pub fn posting_at(postings: Postings, x: usize) -> Posting
-    requires { Fields postings.kinds.now postings.firsts.now postings.seconds.now postings.amounts.now × (x < length postings.kinds.now) }
-    ensures { result ≡ posting_at postings.entry.kinds.now postings.entry.firsts.now postings.entry.seconds.now postings.entry.amounts.now x }
-{
-    Posting {
-        owner: 0,
-        kind: postings.kinds[x],
-        a: postings.firsts[x],
-        b: postings.seconds[x],
-        amount: postings.amounts[x],
-    }
-}
-
 // Whether x has a mark of one sort only and conflicts with y. The mark is tested first: it is one comparison, and settles most x.
 #[tactic(auto, unfolding(crate::specs::Pair::one_sided), using(crate::proofs::Marks::conflict_at))]
 fn mark_differs(mark: u8, matrix: u16, postings: Postings, x: usize, y: usize) -> bool
@@ -244,13 +229,7 @@ fn mark_differs(mark: u8, matrix: u16, postings: Postings, x: usize, y: usize) -
 {
     mark != 0
         && mark != BOTH
-        && posting::conflicting(
-            matrix,
-            x,
-            posting_at(postings, x),
-            y,
-            posting_at(postings, y),
-        )
+        && posting::conflicting(matrix, x, postings.posting_at(x), y, postings.posting_at(y))
 }
 
 // The lowest posting with a mark of one sort only that conflicts with y.

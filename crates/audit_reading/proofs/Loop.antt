@@ -9,11 +9,11 @@ use native.Mathlib.Omega.{arith}
 use native.Mathlib.Decide.{ℕ_discrete}
 use native.Mathlib.Numerals.{add-one}
 use lib.ListN.{length, get_or, take, replicate, length-set, length-replicate}
-use lib.Seq.{take-suc, take_all}
+use lib.Seq.{take-suc}
 use borrow.Author.Tests.{eq-eqb, ne_eqb}
 use Rattle.posting.specs.declared.Table.{Table}
 use Rattle.audit_rule.specs.Reading.{row_in, line_fits}
-use Rattle.audit_reading.specs.Kept.{classes, Rows, Known, NotedIn, TalliedIn, Readable, line_ok, Whole, Broken, AtMost, own_class, counted, reached, four_put, places_after, seen_after, totals_after, ahead_after, fits_now}
+use Rattle.audit_reading.specs.Kept.{classes, Rows, Known, NotedIn, TalliedIn, Readable, line_ok, Broken, AtMost, own_class, counted, reached, four_put, places_after, seen_after, totals_after, ahead_after, fits_now}
 use Rattle.audit_reading.proofs.Bumps.{changed_length, changed_most}
 use Rattle.audit_reading.proofs.RowLaws.{Row, row_is}
 use Rattle.audit_reading.proofs.Meaning.{line_test, line_noted, line_tallied, four_length}
@@ -165,13 +165,3 @@ going_start matrix kinds firsts seconds lines seen totals places ahead full most
   where
     zero_at : (c : ℕ) → ◌≡◌ {A = ℕ} (get_or (replicate classes 0) c 0) 0
     zero_at c = zeros_at classes c
-
--- at the end
-module _ {matrix : ℕ} {kinds firsts seconds lines : List ℕ} {seen : ℕ} {totals₀ places₀ ahead₀ totals places ahead counts highest : List ℕ} {given i : ℕ}
-    (g : Going matrix kinds firsts seconds lines seen totals₀ places₀ ahead₀ totals places ahead counts highest given i) (end : length lines ≤ i) where
-  pub going_ends : (t : Table) (read : List ℕ) → Rows t kinds firsts seconds (length kinds) → NotedIn t read places₀ seen totals₀ ahead₀
-      → Whole matrix t read lines places given totals ahead
-  going_ends t read rows n = record {
-    notes = subst (λ (l : List ℕ). NotedIn t (read ++ l) places given totals ahead) (take_all i lines end) (g.notes t read rows n);
-    fit = λ j h. g.fit t read rows n j (omega (arith, h, end));
-  }

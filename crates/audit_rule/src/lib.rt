@@ -3,8 +3,10 @@
 #![tactic(auto)]
 
 ghost use Rattle.std.specs.Prelude.{◌≡◌, ◌<◌, length};
-ghost use Rattle.audit_rule.specs.Handed.{start_of, record_of};
+ghost use Rattle.audit_rule.specs.Handed.{posting_at, start_of, record_of};
 ghost use Rattle.audit_rule.specs.Needs.{Rising};
+
+use posting::Posting;
 
 // Postings by number, field by field, as they are handed over: a posting's kind, its accounts and its amount.
 #[derive(Clone, Copy)]
@@ -13,6 +15,22 @@ pub struct Postings<'a> {
     pub firsts: &'a [u8],
     pub seconds: &'a [u8],
     pub amounts: &'a [u32],
+}
+
+impl<'a> Postings<'a> {
+    // The posting with number x.
+    pub fn posting_at(self, x: usize) -> Posting
+        requires { (x < length self.kinds.now) × (x < length self.firsts.now) × (x < length self.seconds.now) × (x < length self.amounts.now) }
+        ensures { result ≡ posting_at self.entry.kinds.now self.entry.firsts.now self.entry.seconds.now self.entry.amounts.now x }
+    {
+        Posting {
+            owner: 0,
+            kind: self.kinds[x],
+            a: self.firsts[x],
+            b: self.seconds[x],
+            amount: self.amounts[x],
+        }
+    }
 }
 
 // The records of sites, one behind the other: site p's lines end at `ends[p]`.
