@@ -9,28 +9,19 @@ use native.Mathlib.Decide.{dec_lt}
 use lib.Dec.{eqb, leb}
 use lib.ListN.{length, get_or, take}
 use lib.Seq.{take_all, take-add}
-use borrow.Author.Tests.{eq-eqb, ne_eqb, eqb-true, lt-leb, le-leb, leb-true}
-use Rattle.sets.proofs.Truth.{never, not_so, and_left, and_right, or_right}
+use borrow.Author.Tests.{eqb-true, lt-leb, le-leb, leb-true}
+use Rattle.sets.proofs.Truth.{never, not_so, and_left, and_right}
 use Rattle.sets.specs.Below.{all_below}
 use Rattle.sets.proofs.BelowLaws.{all_at, all_from}
 use Rattle.posting.specs.Kinds.{fields_ok}
 use Rattle.audit_rule.specs.Audit.{joined}
-use Rattle.audit_rule.specs.Handed.{no_kind, posting_at, start_of, part, record_of}
+use Rattle.audit_rule.specs.Handed.{posting_at, start_of, part, record_of}
 use Rattle.audit_rule.specs.Needs.{Rising}
 use Rattle.audit_input.specs.Input.{unused, unlawful, ends_ok}
 
 -- ---- postings
 
 module _ (kinds firsts seconds amounts : List ℕ) (x : ℕ) where
-  pub lawful_unused : get_or kinds x 0 ≡ no_kind → unlawful kinds firsts seconds amounts x ≡ false
-  unfolding unlawful unused
-  lawful_unused e = rw (or_right (leb (length kinds) x) (eqb (get_or kinds x 0) no_kind) (eq-eqb (get_or kinds x 0) no_kind e))
-
-  pub unlawful_used : x < length kinds → (get_or kinds x 0 ≡ no_kind → ⊥)
-      → unlawful kinds firsts seconds amounts x ≡ not (fields_ok (posting_at kinds firsts seconds amounts x))
-  unfolding unlawful unused
-  unlawful_used h d = rw (lt-leb (length kinds) x h, ne_eqb (get_or kinds x 0) no_kind d)
-
   -- where it has a posting that is not refused, its fields are within their row
   pub used_lawful : unused kinds x ≡ false → unlawful kinds firsts seconds amounts x ≡ false → fields_ok (posting_at kinds firsts seconds amounts x) ≡ true
   unfolding unlawful

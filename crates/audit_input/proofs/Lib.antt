@@ -2,5 +2,6 @@
 -- Rests on the specs.
 pub mod Searches
 pub mod Judged
+pub mod Judgements
 pub mod Marks
 pub mod Accepted

@@ -15,8 +15,10 @@ use borrow.Author.Tests.{eq-eqb, ne_eqb}
 use Rattle.sets.proofs.Truth.{test, or_right}
 use Rattle.broadcast.specs.Lists.{mem}
 use Rattle.broadcast.specs.Counts.{bit}
+use Rattle.std.specs.Prelude.{Some, None}
 use Rattle.audit_rule.specs.Needs.{Numbered}
-use Rattle.audit_rule.proofs.Seeking.{Seeking, seek_start, seek_here, seek_next, seek_end}
+use Rattle.audit_rule.specs.Searches.{if_below}
+use Rattle.audit_rule.proofs.Seeking.{Seeking, seek_next, seek_some, seek_none}
 use Rattle.audit_input.specs.Input.{repeated_line}
 
 mem_snoc : (x y : ℕ) (l : List ℕ) → mem x (l ++ (y ∷ [])) ≡ (mem x l || eqb x y)
@@ -35,9 +37,6 @@ module _ (lines : List ℕ) (count : ℕ) where
     pub seeking : Seeking repeats (length lines) i
     pub are : (x : ℕ) → x < count → get_or marks x 0 ≡ bit (mem x (take i lines))
 
-  pub marking_start : (marks : List ℕ) → length marks ≡ count → ((x : ℕ) → get_or marks x 0 ≡ 0) → Marking marks 0
-  marking_start marks long zeros = record { below = omega arith; long = long; seeking = seek_start; are = λ x h. zeros x }
-
   module _ (numbered : Numbered lines count) (marks : List ℕ) (i : ℕ) (g : Marking marks i) (more : i < length lines) where
     abbrev here : ℕ
     here = get_or lines i 0
@@ -55,9 +54,9 @@ module _ (lines : List ℕ) (count : ℕ) where
         one_zero h = absurd (omega (arith, h))
     repeat_cases false e = (λ d. absurd (d (marked_is ∙ ap bit e)), λ z. refl)
 
-    pub repeat_found : get_or marks here 0 ≢ 0 → i ≡ repeated_line lines
+    pub repeat_found : get_or marks here 0 ≢ 0 → Some i ≡ if_below (repeated_line lines) (length lines)
     unfolding repeated_line
-    repeat_found d = seek_here g.seeking more ((repeat_cases (repeats i) refl).0 d)
+    repeat_found d = seek_some g.seeking more ((repeat_cases (repeats i) refl).0 d)
 
     pub marking_next : get_or marks here 0 ≡ 0 → Marking (set marks here 1) (i + 1)
     marking_next z =
@@ -75,6 +74,6 @@ module _ (lines : List ℕ) (count : ℕ) where
           | no d ↦ rw (ne_eqb x here d, or-false (mem x (take i lines))) (get_or-set_other marks here x 1 0 d ∙ g.are x h)
         ]
 
-  pub repeat_none : (marks : List ℕ) (i : ℕ) → Marking marks i → length lines ≤ i → i ≡ repeated_line lines
+  pub repeat_none : (marks : List ℕ) (i : ℕ) → Marking marks i → length lines ≤ i → None ≡ if_below (repeated_line lines) (length lines)
   unfolding repeated_line
-  repeat_none marks i g end = seek_end g.seeking end
+  repeat_none marks i g end = seek_none g.seeking end

@@ -1,24 +1,26 @@
 -- The search over the sites for the first record that has a line of some sort, and the spot that it finds.
 -- Rests on audit_rule's Seeking. Assumes nothing.
-use Prim.Native.Nat.{ℕ, suc, ◌+◌, ◌-◌, ◌<◌, ◌≤◌}
-use mathlib.Core.Path.{◌≡◌, refl, sym, ap, ◌∙◌}
+use Prim.Native.Nat.{ℕ, ◌+◌, ◌<◌, ◌≤◌}
+use mathlib.Core.Path.{◌≡◌, sym}
 use mathlib.Core.Logic.{inl, inr}
 use mathlib.Core.Bool.{Bool}
 use mathlib.Core.List.{List}
 use native.Mathlib.Omega.{arith}
 use native.Mathlib.Decide.{dec_lt}
 use lib.Dec.{ltb}
-use lib.ListN.{length, get_or}
-use borrow.Author.Tests.{lt-ltb, le-ltb, ltb-true}
-use Rattle.sets.proofs.Truth.{never}
+use lib.ListN.{length}
+use borrow.Author.Tests.{lt-ltb, le-ltb, ltb-true, ltb-false}
+use Rattle.sets.proofs.Truth.{never, test}
 use Rattle.audit_rule.specs.Audit.{lowest}
-use Rattle.audit_rule.specs.Handed.{start_of, part, record_of}
-use Rattle.audit_rule.specs.Needs.{Rising}
-use Rattle.audit_rule.proofs.Handed.{part_length, part_at}
+use Rattle.audit_rule.specs.Handed.{record_of}
 use Rattle.audit_rule.proofs.Findings.{lowest_cases}
-use Rattle.audit_rule.proofs.Seeking.{Seeking, seek_start, seek_here, seek_next, seek_end}
+use Rattle.audit_rule.specs.Searches.{if_below}
+use Rattle.audit_rule.proofs.Seeking.{Seeking, seek_here, seek_next, seek_end}
+use Rattle.audit_rule.proofs.Searches.{below_some, below_none}
 use Rattle.audit_input.specs.declared.Spot.{Spot}
 use Rattle.audit_input.specs.Input.{first_spot}
+use Rattle.audit_input.specs.Refusals.{found_spot}
+use Rattle.std.specs.Prelude.{Option, Some, None}
 
 -- ---- over the sites
 
@@ -27,68 +29,26 @@ module _ (line : List ℕ → ℕ) (lines ends : List ℕ) where
   abbrev pub has : ℕ → Bool
   has p = ltb (line (record_of lines ends p)) (length (record_of lines ends p))
 
-  -- after p sites
-  pub record Looked (from p : ℕ) : Type 0 where
-    pub below : p ≤ length ends
-    pub from_is : from ≡ start_of ends p
-    pub seeking : Seeking has (length ends) p
+  module _ {p : ℕ} (g : Seeking has (length ends) p) where
+    module _ (more : p < length ends) where
+      pub looked_next : None ≡ if_below (line (record_of lines ends p)) (length (record_of lines ends p)) → Seeking has (length ends) (p + 1)
+      looked_next e = seek_next g more (le-ltb (line (record_of lines ends p)) (length (record_of lines ends p)) (below_none e))
 
-  pub looked_start : Looked 0 0
-  looked_start = record { below = omega arith; from_is = refl; seeking = seek_start }
+      pub spot_found : (at : ℕ) → Some at ≡ if_below (line (record_of lines ends p)) (length (record_of lines ends p))
+          → ◌≡◌ {A = Option Spot} (Some (record { site = p; line = at })) (found_spot (first_spot line (length ends) (record_of lines ends)) (length ends))
+      unfolding first_spot
+      spot_found at e =
+          let (is, here) = below_some e in
+          let first : lowest has (length ends) ≡ p = sym (seek_here g more (lt-ltb (line (record_of lines ends p)) (length (record_of lines ends p)) (rw is at here))) in
+          rw (first, lt-ltb p (length ends) more, is)
 
-  module _ (from p to : ℕ) (g : Looked from p) (more : p < length ends) (to_is : to ≡ get_or ends p 0) where
-    record_is : record_of lines ends p ≡ part from to lines
-    record_is = rw (g.from_is, to_is)
-
-    pub part_from : Rising lines ends → from ≤ to
-    part_from r = let h = r.rising p more in omega (arith, h, g.from_is, to_is)
-
-    pub part_to : Rising lines ends → to ≤ length lines
-    part_to r = let h = r.within p more in omega (arith, h, to_is)
-
-    long : Rising lines ends → length (record_of lines ends p) ≡ to - from
-    long r = ap (length {A = ℕ}) record_is ∙ part_length from to lines (part_to r)
-
-    pub looked_next : Rising lines ends → (at : ℕ) → at ≡ line (part from to lines) → to - from ≤ at → Looked to (p + 1)
-    looked_next r at at-is past = record {
-      below = omega (arith, more);
-      from_is = rw (next_suc p) to_is;
-      seeking = seek_next g.seeking more (le-ltb (line (record_of lines ends p)) (length (record_of lines ends p)) (let n = long r in let e = ap line record_is in omega (arith, n, e, at-is, past)));
-    }
-      where
-        next_suc : (i : ℕ) → i + 1 ≡ suc i
-        next_suc i = omega arith
-
-    pub spot_found : Rising lines ends → (at : ℕ) → at ≡ line (part from to lines) → at < to - from
-        → ◌≡◌ {A = Spot} (record { site = p; line = at }) (first_spot line (length ends) (record_of lines ends))
+    pub spot_none : length ends ≤ p → ◌≡◌ {A = Option Spot} None (found_spot (first_spot line (length ends) (record_of lines ends)) (length ends))
     unfolding first_spot
-    spot_found r at at-is here =
-        let n = long r in
-        let e = ap line record_is in
-        let first : lowest has (length ends) ≡ p = sym (seek_here g.seeking more
-        (lt-ltb (line (record_of lines ends p)) (length (record_of lines ends p)) (omega (arith, n, e, at-is, here)))) in
-        rw (first, lt-ltb p (length ends) more, at-is, e)
-
-  pub spot_none : (from p : ℕ) → Looked from p → length ends ≤ p
-      → ◌≡◌ {A = Spot} (record { site = p; line = 0 }) (first_spot line (length ends) (record_of lines ends))
-  unfolding first_spot
-  spot_none from p g end =
-      let e : p ≡ length ends = omega (arith, g.below, end) in
-      let first : lowest has (length ends) ≡ length ends = sym (seek_end g.seeking end) ∙ e in
-      rw (first, e, le-ltb (length ends) (length ends) (omega arith))
+    spot_none end =
+        let e = seek_end g end in
+        rw (sym e, le-ltb p (length ends) end)
 
 -- ---- a spot
-
-module _ (lines ends : List ℕ) (r : Rising lines ends) (p : ℕ) (in-sites : p < length ends) where
-  pub record_long : length (record_of lines ends p) ≡ get_or ends p 0 - start_of ends p
-  record_long = part_length (start_of ends p) (get_or ends p 0) lines (r.within p in-sites)
-
-  -- a line of a site's record is one of all lines
-  pub line_within : (i : ℕ) → i < length (record_of lines ends p) → start_of ends p + i < length lines
-  line_within i h = let n = record_long in let w = r.within p in-sites in let o = r.rising p in-sites in omega (arith, n, w, o, h)
-
-  pub line_at : (i : ℕ) → i < length (record_of lines ends p) → get_or lines (start_of ends p + i) 0 ≡ get_or (record_of lines ends p) i 0
-  line_at i h = let n = record_long in sym (part_at (start_of ends p) (get_or ends p 0) lines i (omega (arith, n, h)))
 
 -- the line of a spot that was found is one of its record
 pub spot_line : (line : List ℕ → ℕ) (n : ℕ) (records : ℕ → List ℕ) → (first_spot line n records).site < n
@@ -113,3 +73,20 @@ spot_past line n records h p l =
         | no b ↦ omega (arith, b)
       ]
     ]
+
+-- ---- a spot as a search answers it
+
+pub spot_is : (s t : Spot) (n : ℕ) → Some t ≡ found_spot s n → (t ≡ s) × (t.site < n)
+spot_is s t n e = elim (test (ltb s.site n)) [
+  | inl h ↦ let d = rw h at e in let same : t ≡ s = cc in (same, rw same (ltb-true s.site n h))
+  | inr f ↦ let d = rw f at e in cc
+]
+
+pub spot_is_past : (s : Spot) (n : ℕ) → None ≡ found_spot s n → n ≤ s.site
+spot_is_past s n e = elim (test (ltb s.site n)) [ inl h ↦ let d = rw h at e in cc | inr f ↦ ltb-false s.site n f ]
+
+-- it is one of the records, and of its lines
+pub spot_lies : (line : List ℕ → ℕ) (n : ℕ) (records : ℕ → List ℕ) (t : Spot) → Some t ≡ found_spot (first_spot line n records) n
+    → (t.site < n) × (t.line < length (records t.site))
+spot_lies line n records t e =
+    let (is, within) = spot_is (first_spot line n records) t n e in (within, rw is (spot_line line n records (rw is at within)))

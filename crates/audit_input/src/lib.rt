@@ -3,13 +3,16 @@
 #![tactic(auto)]
 
 ghost use Rattle.std.specs.Prelude.{◌≡◌, ℕ, ◌<◌, ◌≤◌, length, get_or};
-ghost use Rattle.audit_rule.specs.Audit.{joined, lowest};
-ghost use Rattle.audit_rule.specs.Handed.{start_of, record_of};
+ghost use Rattle.audit_rule.specs.Audit.{joined};
+ghost use Rattle.audit_rule.specs.Handed.{record_of};
 ghost use Rattle.audit_rule.specs.Needs.{Rising, Numbered};
+ghost use Rattle.audit_rule.specs.Searches.{if_below, lowest_below};
 ghost use Rattle.audit_pair.specs.Pair.{Fields};
 ghost use Rattle.audit_input.specs.Input.{refusal, sites_ok, matrix_ok, ends_ok, fields_long, lent_long, unused, unlawful, unknown_line, repeated_line, first_spot, number_at, above_at, sizes_code, lines_judged, judged};
+ghost use Rattle.audit_input.specs.Refusals.{number_of, code_of, judgement, found_spot};
 
-use audit_pair::{clear, place_of, posting_at};
+use audit_pair::place_of;
+use audit_rule::{Postings, Records};
 use books::SITES;
 
 // What stands in place of a kind where a number has no posting.
@@ -18,18 +21,25 @@ pub const NO_KIND: u8 = 255;
 // The most postings.
 pub const POSTINGS: usize = 65_536;
 
-// The refusals.
-const BAD_SITES: u8 = 1;
+// The refusals, by their numbers.
+#[derive(Clone, Copy, Debug, PartialEq, Eq)]
+pub enum Refusal {
+    Sites = 1,
+    Matrix = 2,
+    Sizes = 3,
+    Fields = 5,
+    Unknown = 7,
+    Twice = 9,
+}
 
-const BAD_MATRIX: u8 = 2;
-
-pub const BAD_SIZES: u8 = 3;
-
-pub const BAD_FIELDS: u8 = 5;
-
-pub const UNKNOWN: u8 = 7;
-
-const TWICE: u8 = 9;
+impl Refusal {
+    // Its number, as it is answered to other languages.
+    pub fn number(self) -> u8
+        ensures { result ≡ number_of self }
+    {
+        self as u8
+    }
+}
 
 // What the audit answers. The code is 0 if the records agree, the number of a refusal up to 9, or 10 to 12 for a pair (audit_pair's constants).
 // A refusal names its site, line and posting, and for a posting named twice the line above. A pair comes with the line that departs, and
@@ -47,346 +57,253 @@ pub struct Answer {
     pub there: usize,
 }
 
+// The records agree, or no refusal applies: no place is named.
+pub const AGREEMENT: Answer = Answer {
+    code: 0,
+    site: 0,
+    line: 0,
+    posting: 0,
+    above: 0,
+    first: 0,
+    second: 0,
+    here: 0,
+    there: 0,
+};
+
 // A line of a site's record.
-#[derive(Drop)]
+#[derive(Clone, Copy)]
 pub struct Spot {
     pub site: usize,
     pub line: usize,
 }
 
 // A refusal at a place.
-fn refused(code: u8, site: usize, line: usize, posting: usize, above: usize) -> Answer
-    ensures { result ≡ refusal code site line posting above }
+fn refused(why: Refusal, site: usize, line: usize, posting: usize, above: usize) -> Answer
+    ensures { result ≡ refusal (number_of why) site line posting above }
 {
     Answer {
-        code,
+        code: why.number(),
         site,
         line,
         posting,
         above,
-        first: 0,
-        second: 0,
-        here: 0,
-        there: 0,
+        ..AGREEMENT
     }
 }
 
 // Whether there are one to seven records.
+#[tactic(auto, unfolding(crate::specs::Input::sites_ok))]
 fn sites_ok(ends: &[usize]) -> bool
     ensures { result ≡ sites_ok ends.now }
 {
-    let n = ends.len();
-    if n < 1 {
-        return false;
-    }
-    n <= SITES
+    1 <= ends.len() && ends.len() <= SITES
 }
 
 // Whether the matrix is symmetric and has the fixed pairs.
+#[tactic(auto, unfolding(crate::specs::Input::matrix_ok))]
 pub fn matrix_ok(matrix: u16) -> bool
     ensures { result ≡ matrix_ok matrix }
 {
-    if posting::symmetric(matrix) {
-        return posting::has_fixed_pairs(matrix);
-    }
-    false
+    posting::symmetric(matrix) && posting::has_fixed_pairs(matrix)
 }
 
-// Whether the sites' lines follow one another, to the last of `count`.
-fn ends_ok(count: usize, ends: &[usize]) -> bool
-    ensures { result ≡ ends_ok count ends.now }
+// Whether the sites' lines follow one another, to the last.
+fn ends_ok(records: Records) -> bool
+    ensures { result ≡ ends_ok (length records.entry.lines.now) records.entry.ends.now }
 {
     let mut from = 0;
-    let mut p = 0;
-    while p < ends.len() {
-        let to = ends[p];
-        if to < from {
+    for to in records.ends {
+        if *to < from {
             return false;
         }
-        from = to;
-        p += 1;
+        from = *to;
     }
-    from == count
+    from == records.lines.len()
 }
 
 // Whether there are at most 65,536 numbers, and each field in its slice for each.
-pub fn fields_long(kinds: usize, firsts: usize, seconds: usize, amounts: usize) -> bool
-    ensures { result ≡ fields_long kinds firsts seconds amounts }
+#[tactic(auto, unfolding(crate::specs::Input::fields_long))]
+pub fn fields_long(postings: Postings) -> bool
+    ensures { result ≡ fields_long (length postings.entry.kinds.now) (length postings.entry.firsts.now) (length postings.entry.seconds.now) (length postings.entry.amounts.now) }
 {
-    if POSTINGS < kinds {
-        return false;
-    }
-    if firsts != kinds {
-        return false;
-    }
-    if seconds != kinds {
-        return false;
-    }
-    amounts == kinds
+    let n = postings.kinds.len();
+    n <= POSTINGS
+        && postings.firsts.len() == n
+        && postings.seconds.len() == n
+        && postings.amounts.len() == n
 }
 
 // Whether the slices lent have room.
+#[tactic(auto, unfolding(crate::specs::Input::lent_long))]
 fn lent_long(kinds: usize, marks: usize, places: usize, ahead: usize) -> bool
     requires { kinds ≤ 65536 }
     ensures { result ≡ lent_long kinds marks places ahead }
 {
-    if marks < kinds {
-        return false;
-    }
-    if places < kinds {
-        return false;
-    }
-    8 * kinds <= ahead
+    kinds <= marks && kinds <= places && 8 * kinds <= ahead
 }
 
 // Whether a number has no posting, past the slices too.
+#[tactic(auto, unfolding(crate::specs::Input::unused))]
 pub fn unused(kinds: &[u8], x: usize) -> bool
     ensures { result ≡ unused kinds.now x }
 {
-    if kinds.len() <= x {
-        return true;
-    }
-    kinds[x] == NO_KIND
+    kinds.len() <= x || kinds[x] == NO_KIND
 }
 
 // Whether a posting is there whose fields are outside their row.
-fn unlawful(kinds: &[u8], firsts: &[u8], seconds: &[u8], amounts: &[u32], x: usize) -> bool
-    requires { Fields kinds.now firsts.now seconds.now amounts.now × (x < length kinds.now) }
-    ensures { result ≡ unlawful kinds.now firsts.now seconds.now amounts.now x }
+#[tactic(auto, unfolding(crate::specs::Input::unlawful, crate::specs::Input::unused))]
+fn unlawful(postings: Postings, x: usize) -> bool
+    requires { Fields postings.kinds.now postings.firsts.now postings.seconds.now postings.amounts.now × (x < length postings.kinds.now) }
+    ensures { result ≡ unlawful postings.entry.kinds.now postings.entry.firsts.now postings.entry.seconds.now postings.entry.amounts.now x }
 {
-    if kinds[x] == NO_KIND {
-        return false;
-    }
-    let p = posting_at(kinds, firsts, seconds, amounts, x);
-    let ok = p.fields_ok();
-    ok == false
+    postings.kinds[x] != NO_KIND && !postings.posting_at(x).fields_ok()
 }
 
-// The lowest number whose posting is unlawful; as many as there are numbers if there is none.
-pub fn first_unlawful(kinds: &[u8], firsts: &[u8], seconds: &[u8], amounts: &[u32]) -> usize
-    requires { Fields kinds.now firsts.now seconds.now amounts.now }
-    ensures { result ≡ lowest (unlawful kinds.now firsts.now seconds.now amounts.now) (length kinds.now) }
+// The lowest number whose posting is unlawful.
+pub fn first_unlawful(postings: Postings) -> Option<usize>
+    requires { Fields postings.kinds.now postings.firsts.now postings.seconds.now postings.amounts.now }
+    ensures { result ≡ lowest_below (unlawful postings.entry.kinds.now postings.entry.firsts.now postings.entry.seconds.now postings.entry.amounts.now) (length postings.entry.kinds.now) }
 {
-    let mut x = 0;
-    while x < kinds.len() {
-        if unlawful(kinds, firsts, seconds, amounts, x) {
-            return x;
+    for x in 0..postings.kinds.len() {
+        if unlawful(postings, x) {
+            return Some(x);
         }
-        x += 1;
     }
-    x
+    None
 }
 
-// The first line of a record with a number that has no posting; the record's length if there is none.
-pub fn unknown_line(kinds: &[u8], lines: &[u16]) -> usize
-    ensures { result ≡ unknown_line kinds.now lines.now }
+// The first line of a record with a number that has no posting.
+pub fn unknown_line(kinds: &[u8], lines: &[u16]) -> Option<usize>
+    ensures { result ≡ if_below (unknown_line kinds.now lines.now) (length lines.now) }
 {
-    let mut i = 0;
-    while i < lines.len() {
-        let x = lines[i] as usize;
-        if unused(kinds, x) {
-            return i;
+    for (i, x) in lines.iter().enumerate() {
+        if unused(kinds, usize::from(*x)) {
+            return Some(i);
         }
-        i += 1;
     }
-    i
+    None
 }
 
-// The first record that has a line with a number that has no posting, and the line; as many as there are sites if none has.
-fn first_unknown(kinds: &[u8], lines: &[u16], ends: &[usize]) -> Spot
-    requires { Rising lines.now ends.now }
-    ensures { result ≡ first_spot (unknown_line kinds.now) (length ends.now) (record_of lines.now ends.now) }
+// The first record that has a line with a number that has no posting, and the line.
+fn first_unknown(kinds: &[u8], records: Records) -> Option<Spot>
+    requires { Rising records.lines.now records.ends.now }
+    ensures { result ≡ found_spot (first_spot (unknown_line kinds.now) (length records.entry.ends.now) (record_of records.entry.lines.now records.entry.ends.now)) (length records.entry.ends.now) }
 {
-    let mut from = 0;
-    let mut p = 0;
-    while p < ends.len() {
-        let to = ends[p];
-        let line = unknown_line(kinds, &lines[from..to]);
-        if line < to - from {
-            return Spot { site: p, line };
+    for site in 0..records.ends.len() {
+        if let Some(line) = unknown_line(kinds, records.record_of(site)) {
+            return Some(Spot { site, line });
         }
-        from = to;
-        p += 1;
     }
-    Spot { site: p, line: 0 }
+    None
 }
 
-// The first line of a record with a number that stands above it, where no number is marked; the record's length if there is none.
-fn marked_line(lines: &[u16], marks: &mut [u8]) -> usize
-    requires { Numbered lines.now (length marks.old) × ((x : ℕ) → get_or marks.old x 0 ≡ 0) }
-    ensures { result ≡ repeated_line lines.now }
+// The first line of a record with a number that stands above it.
+fn repeated_line(lines: &[u16], marks: &mut [u8]) -> Option<usize>
+    requires { Numbered lines.now (length marks.old) }
+    ensures { result ≡ if_below (repeated_line lines.now) (length lines.now) }
 {
-    let mut i = 0;
-    while i < lines.len() {
-        let x = lines[i] as usize;
+    marks.fill(0);
+    for (i, x) in lines.iter().enumerate() {
+        let x = usize::from(*x);
         if marks[x] != 0 {
-            return i;
+            return Some(i);
         }
         marks[x] = 1;
-        i += 1;
     }
-    i
+    None
 }
 
-// The same, whatever is marked.
-fn repeated_line(lines: &[u16], marks: &mut [u8]) -> usize
-    requires { Numbered lines.now (length marks.old) }
-    ensures { result ≡ repeated_line lines.now }
+// The first record that has a line with a number that stands above it, and the line.
+fn first_repeat(records: Records, marks: &mut [u8]) -> Option<Spot>
+    requires { Rising records.lines.now records.ends.now × Numbered records.lines.now (length marks.old) }
+    ensures { result ≡ found_spot (first_spot repeated_line (length records.entry.ends.now) (record_of records.entry.lines.now records.entry.ends.now)) (length records.entry.ends.now) }
 {
-    clear(marks);
-    marked_line(lines, marks)
-}
-
-// The first record that has a line with a number that stands above it, and the line; as many as there are sites if none has.
-fn first_repeat(lines: &[u16], ends: &[usize], marks: &mut [u8]) -> Spot
-    requires { Rising lines.now ends.now × Numbered lines.now (length marks.old) }
-    ensures { result ≡ first_spot repeated_line (length ends.now) (record_of lines.now ends.now) }
-{
-    let mut from = 0;
-    let mut p = 0;
-    while p < ends.len() {
-        let to = ends[p];
-        let line = repeated_line(&lines[from..to], marks);
-        if line < to - from {
-            return Spot { site: p, line };
+    for site in 0..records.ends.len() {
+        if let Some(line) = repeated_line(records.record_of(site), marks) {
+            return Some(Spot { site, line });
         }
-        from = to;
-        p += 1;
     }
-    Spot { site: p, line: 0 }
-}
-
-// Where a site's lines begin.
-pub fn start_of(ends: &[usize], p: usize) -> usize
-    requires { p < length ends.now }
-    ensures { result ≡ start_of ends.now p }
-{
-    if p == 0 {
-        return 0;
-    }
-    ends[p - 1]
-}
-
-// The number at a line of a site's record.
-pub fn number_at(lines: &[u16], ends: &[usize], p: usize, line: usize) -> u16
-    requires { Rising lines.now ends.now × (p < length ends.now) × (line < length (record_of lines.now ends.now p)) }
-    ensures { result ≡ get_or (record_of lines.now ends.now p) line 0 }
-{
-    let from = start_of(ends, p);
-    lines[from + line]
+    None
 }
 
 // A line with a number that has no posting is refused.
-fn refused_unknown(lines: &[u16], ends: &[usize], spot: Spot) -> Answer
-    requires { Rising lines.now ends.now × (spot.site < length ends.now) × (spot.line < length (record_of lines.now ends.now spot.site)) }
-    ensures { result ≡ refusal 7 spot.site spot.line (number_at lines.now ends.now spot) 0 }
+fn refused_unknown(records: Records, spot: Spot) -> Answer
+    requires { Rising records.lines.now records.ends.now × (spot.site < length records.ends.now) × (spot.line < length (record_of records.lines.now records.ends.now spot.site)) }
+    ensures { result ≡ refusal 7 spot.site spot.line (number_at records.entry.lines.now records.entry.ends.now spot) 0 }
 {
-    let number = number_at(lines, ends, spot.site, spot.line);
-    refused(UNKNOWN, spot.site, spot.line, number as usize, 0)
+    let Spot { site, line } = spot;
+    let number = records.record_of(site)[line];
+    refused(Refusal::Unknown, site, line, usize::from(number), 0)
 }
 
 // A line with a number that stands above it is refused.
-fn refused_twice(lines: &[u16], ends: &[usize], spot: Spot) -> Answer
-    requires { Rising lines.now ends.now × (spot.site < length ends.now) × (spot.line < length (record_of lines.now ends.now spot.site)) }
-    ensures { result ≡ refusal 9 spot.site spot.line (number_at lines.now ends.now spot) (above_at lines.now ends.now spot) }
+fn refused_twice(records: Records, spot: Spot) -> Answer
+    requires { Rising records.lines.now records.ends.now × (spot.site < length records.ends.now) × (spot.line < length (record_of records.lines.now records.ends.now spot.site)) }
+    ensures { result ≡ refusal 9 spot.site spot.line (number_at records.entry.lines.now records.entry.ends.now spot) (above_at records.entry.lines.now records.entry.ends.now spot) }
 {
-    let p = spot.site;
-    let number = number_at(lines, ends, p, spot.line);
-    let from = start_of(ends, p);
-    let to = ends[p];
-    let above = place_of(&lines[from..to], number);
-    refused(TWICE, p, spot.line, number as usize, above)
+    let Spot { site, line } = spot;
+    let own = records.record_of(site);
+    let number = own[line];
+    let above = place_of(own, number);
+    refused(Refusal::Twice, site, line, usize::from(number), above)
 }
 
-// The first of refusals 1 to 3 that applies; 0 if none does.
-fn sizes_code(
+// The first of refusals 1 to 3 that applies.
+#[tactic(auto, unfolding(crate::specs::Input::sizes_code))]
+fn sizes_refusal(
     matrix: u16,
-    kinds: &[u8],
-    firsts: &[u8],
-    seconds: &[u8],
-    amounts: &[u32],
-    lines: &[u16],
-    ends: &[usize],
+    postings: Postings,
+    records: Records,
     marks: usize,
     places: usize,
     ahead: usize,
-) -> u8
-    ensures { result ≡ sizes_code matrix kinds.now firsts.now seconds.now amounts.now lines.now ends.now marks places ahead }
+) -> Option<Refusal>
+    ensures { code_of result ≡ sizes_code matrix postings.entry.kinds.now postings.entry.firsts.now postings.entry.seconds.now postings.entry.amounts.now records.entry.lines.now records.entry.ends.now marks places ahead }
 {
-    let sites = sites_ok(ends);
-    if sites == false {
-        return BAD_SITES;
+    if !sites_ok(records.ends) {
+        Some(Refusal::Sites)
+    } else if !matrix_ok(matrix) {
+        Some(Refusal::Matrix)
+    } else if fields_long(postings)
+        && ends_ok(records)
+        && lent_long(postings.kinds.len(), marks, places, ahead)
+    {
+        None
+    } else {
+        Some(Refusal::Sizes)
     }
-    let pairs = matrix_ok(matrix);
-    if pairs == false {
-        return BAD_MATRIX;
-    }
-    let n = kinds.len();
-    let long = fields_long(n, firsts.len(), seconds.len(), amounts.len());
-    if long == false {
-        return BAD_SIZES;
-    }
-    let rise = ends_ok(lines.len(), ends);
-    if rise == false {
-        return BAD_SIZES;
-    }
-    let room = lent_long(n, marks, places, ahead);
-    if room == false {
-        return BAD_SIZES;
-    }
-    0
 }
 
-// The first of refusals 7 and 9 that applies.
-fn judge_lines(kinds: &[u8], lines: &[u16], ends: &[usize], marks: &mut [u8]) -> Answer
-    requires { Rising lines.now ends.now × (length kinds.now ≤ length marks.old) × (joined (record_of lines.now ends.now) (length ends.now) ≡ lines.now) }
-    ensures { result ≡ lines_judged kinds.now lines.now ends.now }
+// The first of refusals 7 and 9 that applies, as an error.
+fn judge_lines(kinds: &[u8], records: Records, marks: &mut [u8]) -> Result<(), Answer>
+    requires { Rising records.lines.now records.ends.now × (length kinds.now ≤ length marks.old) × (joined (record_of records.lines.now records.ends.now) (length records.ends.now) ≡ records.lines.now) }
+    ensures { result ≡ judgement (lines_judged kinds.now records.entry.lines.now records.entry.ends.now) }
 {
-    let n = ends.len();
-    let unknown = first_unknown(kinds, lines, ends);
-    if unknown.site < n {
-        return refused_unknown(lines, ends, unknown);
+    if let Some(spot) = first_unknown(kinds, records) {
+        return Err(refused_unknown(records, spot));
     }
-    let twice = first_repeat(lines, ends, marks);
-    if twice.site < n {
-        return refused_twice(lines, ends, twice);
+    if let Some(spot) = first_repeat(records, marks) {
+        return Err(refused_twice(records, spot));
     }
-    refused(0, 0, 0, 0, 0)
+    Ok(())
 }
 
-// The first refusal that applies to what is handed over, and to the lengths of the slices lent; code 0 if none does.
+// The first refusal that applies to what is handed over, and to the lengths of the slices lent, as an error.
 pub fn judge(
     matrix: u16,
-    kinds: &[u8],
-    firsts: &[u8],
-    seconds: &[u8],
-    amounts: &[u32],
-    lines: &[u16],
-    ends: &[usize],
+    postings: Postings,
+    records: Records,
     marks: &mut [u8],
     places: usize,
     ahead: usize,
-) -> Answer
-    ensures { result ≡ judged matrix kinds.now firsts.now seconds.now amounts.now lines.now ends.now (length marks.old) places ahead }
+) -> Result<(), Answer>
+    ensures { result ≡ judgement (judged matrix postings.entry.kinds.now postings.entry.firsts.now postings.entry.seconds.now postings.entry.amounts.now records.entry.lines.now records.entry.ends.now (length marks.old) places ahead) }
 {
-    let code = sizes_code(
-        matrix,
-        kinds,
-        firsts,
-        seconds,
-        amounts,
-        lines,
-        ends,
-        marks.len(),
-        places,
-        ahead,
-    );
-    if code != 0 {
-        return refused(code, 0, 0, 0, 0);
+    if let Some(why) = sizes_refusal(matrix, postings, records, marks.len(), places, ahead) {
+        return Err(refused(why, 0, 0, 0, 0));
     }
-    let x = first_unlawful(kinds, firsts, seconds, amounts);
-    if x < kinds.len() {
-        return refused(BAD_FIELDS, 0, 0, x, 0);
+    if let Some(x) = first_unlawful(postings) {
+        return Err(refused(Refusal::Fields, 0, 0, x, 0));
     }
-    judge_lines(kinds, lines, ends, marks)
+    judge_lines(postings.kinds, records, marks)
 }

@@ -1,7 +1,7 @@
 -- What the loops keep: the marks after i lines, and a count so far; and what the marks of a site say of what it lacks.
 -- Rests on Lacks and Needs, and on audit_rule's Seeking. Assumes nothing.
-use Prim.Native.Nat.{ℕ, zero, suc, ◌+◌, ◌<◌, ◌≤◌}
-use mathlib.Core.Path.{◌≡◌, refl, ap, ◌∙◌}
+use Prim.Native.Nat.{ℕ, ◌+◌, ◌<◌}
+use mathlib.Core.Path.{◌≡◌, refl, ◌∙◌}
 use mathlib.Core.Logic.{inl, inr}
 use mathlib.Core.Bool.{Bool, true, false, cond, not, ◌&&◌, ◌||◌, or-false}
 use mathlib.Core.List.{List, [], ◌∷◌, ◌++◌}
@@ -10,14 +10,14 @@ use native.Mathlib.Decide.{ℕ_discrete}
 use native.Mathlib.Numerals.{add-one}
 use lib.Dec.{eqb}
 use lib.ListN.{length, get_or, set, take}
-use lib.Seq.{take-suc, take_all, get_or-set_same, get_or-set_other}
+use lib.Seq.{take-suc, get_or-set_same, get_or-set_other}
 use borrow.Author.Tests.{eq-eqb, ne_eqb}
-use Rattle.sets.specs.Below.{one, count}
+use Rattle.sets.specs.Below.{count}
 use Rattle.sets.proofs.Truth.{test, or_right}
 use Rattle.sets.proofs.BelowLaws.{count_ext}
 use Rattle.broadcast.specs.Lists.{mem}
 use Rattle.audit_rule.specs.Audit.{lowest}
-use Rattle.audit_rule.specs.Handed.{start_of, part, record_of}
+use Rattle.audit_rule.specs.Handed.{record_of}
 use Rattle.audit_rule.proofs.Seeking.{lowest_alike}
 use Rattle.audit_input.specs.Input.{unused}
 use Rattle.audit_lacks.specs.Lacks.{lacked, lack_count, lack_lowest}
@@ -53,37 +53,6 @@ module _ (lines : List ℕ) (value : ℕ) (marks₀ : List ℕ) where
         | no d ↦ rw (ne_eqb x here d, or-false (mem x (take i lines))) (get_or-set_other marks here x value 0 d ∙ g x)
       ])
 
-  pub valued_end : (marks : List ℕ) (i : ℕ) → length lines ≤ i → Valued (take i lines) marks → Valued lines marks
-  valued_end marks i h g x = rw (take_all i lines h) at (g x)
-
--- all lines marked 1, then site p's marked 2
-pub marked_site : (lines ends : List ℕ) (p from x : ℕ) {m₀ m₁ m₂ : ℕ} → from ≡ start_of ends p → m₀ ≡ 0 → m₁ ≡ cond (mem x lines) 1 m₀
-    → m₂ ≡ cond (mem x (part from (get_or ends p 0) lines)) 2 m₁ → m₂ ≡ cond (mem x (record_of lines ends p)) 2 (cond (mem x lines) 1 0)
-marked_site lines ends p from x start zeros once twice = rw (twice, once, zeros, start)
-
--- ---- counts
-
-module _ (q : ℕ → Bool) where
-  pub count_start : 0 ≡ count q 0
-  unfolding count
-  count_start = refl
-
-  pub count_most : (n : ℕ) → count q n ≤ n
-  unfolding count
-  count_most zero = omega arith
-  count_most (suc n) = let h = count_most n in elim (test (q n)) [ inl t ↦ rw t (omega (arith, h)) | inr f ↦ rw f (omega (arith, h)) ]
-
-  pub count_yes : (many n : ℕ) → many ≡ count q n → q n ≡ true → many + 1 ≡ count q (n + 1)
-  unfolding count
-  count_yes many n e t = rw (add-one n, t) (omega (arith, e))
-
-  pub count_no : (many n : ℕ) → many ≡ count q n → q n ≡ false → many ≡ count q (n + 1)
-  unfolding count
-  count_no many n e f = rw (add-one n, f) (omega (arith, e))
-
-  pub count_end : (many n bound : ℕ) → many ≡ count q n → n ≤ bound → bound ≤ n → many ≡ count q bound
-  count_end many n bound e l h = let same : n ≡ bound = omega (arith, l, h) in e ∙ ap (count q) same
-
 -- ---- what the marks of a site say
 
 module _ (lines ends marks : List ℕ) (p : ℕ) (marked : Marked lines ends marks p) where
@@ -108,13 +77,6 @@ module _ (lines ends marks : List ℕ) (p : ℕ) (marked : Marked lines ends mar
 -- ---- what the first p sites lack
 
 module _ (lines ends : List ℕ) (bound : ℕ) where
-  pub lacking_none : (counts lowests : List ℕ) → Lacking lines ends counts lowests bound 0
-  lacking_none counts lowests = record { counts_are = λ q h. absurd (omega (arith, h)); lowests_are = λ q h. absurd (omega (arith, h)) }
-
-  pub lacking_end : (counts lowests : List ℕ) (p n : ℕ) → n ≤ p → Lacking lines ends counts lowests bound p → Lacking lines ends counts lowests bound n
-  lacking_end counts lowests p n l g =
-      record { counts_are = λ q h. g.counts_are q (omega (arith, h, l)); lowests_are = λ q h. g.lowests_are q (omega (arith, h, l)) }
-
   -- one more number written at p
   at_next : (f : ℕ → ℕ) (l : List ℕ) (p v : ℕ) → p < length l → v ≡ f p → ((q : ℕ) → q < p → get_or l q 0 ≡ f q) → (q : ℕ) → q < p + 1 → get_or (set l p v) q 0 ≡ f q
   at_next f l p v room e g q h = elim (ℕ_discrete q p) [

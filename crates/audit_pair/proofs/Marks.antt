@@ -1,6 +1,6 @@
 -- Marks: what is left to mark of a list, and what the marks of both lists say.
 -- Rests on Seeking. Assumes nothing.
-use Prim.Native.Nat.{ℕ, suc, ◌+◌, ◌-◌, ◌<◌, ◌≤◌}
+use Prim.Native.Nat.{ℕ, suc, ◌+◌, ◌<◌, ◌≤◌}
 use mathlib.Core.Path.{◌≡◌, refl, sym, ◌∙◌}
 use mathlib.Core.Logic.{inl, inr, ◌≢◌}
 use mathlib.Core.Bool.{Bool, true, false, not, ◌&&◌, beq}
@@ -8,9 +8,9 @@ use mathlib.Core.List.{List}
 use native.Mathlib.Omega.{arith}
 use native.Mathlib.Numerals.{add-one}
 use lib.Dec.{ltb}
-use lib.ListN.{length, get_or, set, drop, drop_of_length-le, get_or-eq_default}
+use lib.ListN.{length, get_or, set, drop, drop_of_length-le}
 use lib.Seq.{drop-cons, get_or-set_same, get_or-set_other}
-use borrow.Author.Tests.{le-ltb, ltb-true, ltb-false}
+use borrow.Author.Tests.{le-ltb}
 use Rattle.broadcast.proofs.Tests.{test, same_or, eqb_yes, eqb_no}
 use Rattle.posting.specs.declared.Table.{Table}
 use Rattle.posting.specs.Conflicts.{conflict, conflicting}
@@ -19,24 +19,6 @@ use Rattle.audit_rule.specs.Handed.{posting_at, table_of}
 use Rattle.audit_pair.specs.Pair.{differing, raised, mark_of, one_sided, mark_differs}
 use Rattle.audit_rule.proofs.Handed.{row_at}
 use Rattle.audit_rule.proofs.Seeking.{lowest_alike}
-
--- ---- no marks
-
--- the first i marks are zero
-abbrev pub Cleared : List ℕ → ℕ → Type 0
-Cleared marks i = (x : ℕ) → x < i → get_or marks x 0 ≡ 0
-
-pub cleared_next : (marks : List ℕ) (i : ℕ) → i < length marks → Cleared marks i → Cleared (set marks i 0) (i + 1)
-cleared_next marks i h g x l = elim (same_or x i) [
-  | inl e ↦ rw e (get_or-set_same marks i 0 0 h)
-  | inr d ↦ get_or-set_other marks i x 0 0 d ∙ g x (omega (arith, l, d))
-]
-
-pub cleared_all : (marks : List ℕ) (i : ℕ) → length marks ≤ i → Cleared marks i → (x : ℕ) → get_or marks x 0 ≡ 0
-cleared_all marks i h g x = elim (test (ltb x i)) [
-  | inl t ↦ g x (ltb-true x i t)
-  | inr f ↦ let past = ltb-false x i f in let out : length marks ≤ x = omega (arith, past, h) in get_or-eq_default marks 0 out
-]
 
 -- ---- one list
 

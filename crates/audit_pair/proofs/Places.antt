@@ -10,6 +10,8 @@ use lib.Dec.{eqb, ltb, leb-suc-suc}
 use lib.ListN.{length, get_or, drop, drop_of_length-le}
 use lib.Seq.{drop-cons}
 use borrow.Author.Tests.{lt-ltb, le-ltb, ltb-true, ltb-false}
+use Rattle.std.specs.List.{position_or_len}
+use Rattle.std.proofs.lemmas.List.Recursion.{is_position_or_len}
 use Rattle.broadcast.specs.Lists.{mem}
 use Rattle.broadcast.proofs.Tests.{test, same_or, eqb_yes, eqb_no}
 use Rattle.audit_rule.specs.Audit.{ahead_of, leads_at, lacks_at, up_to}
@@ -25,6 +27,11 @@ place_at_most x (z ∷ l) = elim (same_or z x) [
   | inl e ↦ rw (eqb_yes z x e) (omega arith)
   | inr d ↦ let next = place_at_most x l in rw (eqb_no z x d) (omega (arith, next))
 ]
+
+-- the place is the first index at which x stands
+pub place_is : (x : ℕ) (l : List ℕ) → place_of x l ≡ position_or_len (λ z. eqb z x) l
+unfolding place_of
+place_is x l = is_position_or_len (λ l. place_of x l) (λ z. eqb z x) refl (λ z l. elim (same_or z x) [ inl e ↦ rw (eqb_yes z x e) | inr d ↦ rw (eqb_no z x d) (omega arith) ]) l
 
 -- what has a place before the end is there
 pub place_mem : (x : ℕ) (l : List ℕ) → mem x l ≡ ltb (place_of x l) (length l)
@@ -126,30 +133,6 @@ module _ (i j n : ℕ) (li : i ≤ n) (lj : j ≤ n) where
   first_by (back a b) = rw (lt-ltb i n b, lt-ltb j n (omega (arith, a, b)))
   first_by (second_alone e a) = rw (le-ltb i n (omega (arith, e)))
   first_by (first_alone e a) = rw (lt-ltb i n a, le-ltb j n (omega (arith, e)))
-
--- The code by the tests of the places, one law for each end of the tests.
-module _ (x y : ℕ) (l : List ℕ) {i j : ℕ} (ei : i ≡ place_of x l) (ej : j ≡ place_of y l) where
-  pub stands_neither : i ≡ j → 0 ≡ stands x y l
-  unfolding stands
-  stands_neither e = rw (sym ei, sym ej, eqb_yes i j e)
-
-  module _ (d : i ≢ j) where
-    pub stands_second_alone : i ≡ length l → 3 ≡ stands x y l
-    unfolding stands
-    stands_second_alone e = rw (sym ei, sym ej, eqb_no i j d, eqb_yes i (length l) e)
-
-    module _ (di : i ≢ length l) where
-      pub stands_first_alone : j ≡ length l → 4 ≡ stands x y l
-      unfolding stands
-      stands_first_alone e = rw (sym ei, sym ej, eqb_no i j d, eqb_no i (length l) di, eqb_yes j (length l) e)
-
-      pub stands_forth : j ≢ length l → i < j → 1 ≡ stands x y l
-      unfolding stands
-      stands_forth dj h = rw (sym ei, sym ej, eqb_no i j d, eqb_no i (length l) di, eqb_no j (length l) dj, lt-ltb i j h)
-
-      pub stands_back : j ≢ length l → j ≤ i → 2 ≡ stands x y l
-      unfolding stands
-      stands_back dj h = rw (sym ei, sym ej, eqb_no i j d, eqb_no i (length l) di, eqb_no j (length l) dj, le-ltb i j h)
 
 -- Each sort of a site has its code.
 module _ (n : ℕ) (records : ℕ → List ℕ) (x y p : ℕ) where

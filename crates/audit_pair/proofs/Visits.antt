@@ -1,40 +1,27 @@
 -- The loop over the sites: what holds after p of them, one more, and the end.
 -- Rests on Places and Several. Assumes nothing.
 use Prim.Native.Nat.{ℕ, ◌+◌, ◌<◌, ◌≤◌}
-use mathlib.Core.Path.{◌≡◌, refl, sym, ap, ◌∙◌}
+use mathlib.Core.Path.{◌≡◌, sym, ap, ◌∙◌}
 use mathlib.Core.List.{List}
 use native.Mathlib.Omega.{arith}
-use native.Mathlib.Numerals.{add-one}
 use lib.Dec.{eqb}
-use lib.ListN.{length, get_or}
+use lib.ListN.{length}
 use Rattle.audit_rule.specs.Audit.{leads_at, lacks_at}
-use Rattle.audit_rule.specs.Handed.{start_of, part, record_of}
-use Rattle.audit_rule.specs.Needs.{Rising}
+use Rattle.audit_rule.specs.Handed.{record_of}
 use Rattle.audit_pair.specs.declared.Sites.{Sites}
 use Rattle.audit_pair.specs.Pair.{stands, with_site, sites_of}
 use Rattle.audit_pair.proofs.Places.{leads_forth, leads_back, lacks_first, lacks_second}
-use Rattle.audit_pair.proofs.Several.{Left, left_start, left_next, left_end}
+use Rattle.audit_pair.proofs.Several.{Left, left_next, left_end}
 
 -- the four searches, after p sites
-pub record Visiting (lines ends : List ℕ) (x y : ℕ) (sites : Sites) (from p : ℕ) : Type 0 where
+pub record Visiting (lines ends : List ℕ) (x y : ℕ) (sites : Sites) (p : ℕ) : Type 0 where
   pub below : p ≤ length ends
-  pub from_is : from ≡ start_of ends p
   pub forth_left : Left (leads_at (length ends) (record_of lines ends) x y) (length ends) sites.forth p
   pub back_left : Left (leads_at (length ends) (record_of lines ends) y x) (length ends) sites.back p
   pub first_left : Left (lacks_at (length ends) (record_of lines ends) y x) (length ends) sites.first p
   pub second_left : Left (lacks_at (length ends) (record_of lines ends) x y) (length ends) sites.second p
 
-pub visit_start : {lines ends : List ℕ} {x y : ℕ} → Visiting lines ends x y (record { forth = length ends; back = length ends; first = length ends; second = length ends }) 0 0
-visit_start = record {
-  below = omega arith;
-  from_is = refl;
-  forth_left = left_start;
-  back_left = left_start;
-  first_left = left_start;
-  second_left = left_start;
-}
-
-module _ {lines ends : List ℕ} {x y : ℕ} {sites : Sites} {from p : ℕ} (g : Visiting lines ends x y sites from p) where
+module _ {lines ends : List ℕ} {x y : ℕ} {sites : Sites} {p : ℕ} (g : Visiting lines ends x y sites p) where
   abbrev n : ℕ
   n = length ends
 
@@ -47,21 +34,15 @@ module _ {lines ends : List ℕ} {x y : ℕ} {sites : Sites} {from p : ℕ} (g :
       (sym (left_end g.forth_left g.below h), sym (left_end g.back_left g.below h), sym (left_end g.first_left g.below h), sym (left_end g.second_left g.below h))
 
   module _ (more : p < n) where
-    -- the lines that are lent
-    pub visit_part : Rising lines ends → (from ≤ get_or ends p 0) × (get_or ends p 0 ≤ length lines)
-    visit_part ok = let h = ok.rising p more in (omega (arith, h, g.from_is), ok.within p more)
-
-    pub visit_next : {code : ℕ} → code ≡ stands x y (part from (get_or ends p 0) lines) → Visiting lines ends x y (with_site n p code sites) (get_or ends p 0) (p + 1)
+    pub visit_next : {code : ℕ} → code ≡ stands x y (records p) → Visiting lines ends x y (with_site n p code sites) (p + 1)
     unfolding with_site
-    visit_next {code} e =
-        let is : code ≡ stands x y (records p) = rw g.from_is at e in
+    visit_next {code} is =
         let forth : eqb code 1 ≡ leads_at n records x y p = ap (λ k. eqb k 1) is ∙ sym (leads_forth n records x y p) in
         let back : eqb code 2 ≡ leads_at n records y x p = ap (λ k. eqb k 2) is ∙ sym (leads_back n records x y p) in
         let first : eqb code 4 ≡ lacks_at n records y x p = ap (λ k. eqb k 4) is ∙ sym (lacks_second n records x y p) in
         let second : eqb code 3 ≡ lacks_at n records x y p = ap (λ k. eqb k 3) is ∙ sym (lacks_first n records x y p) in
         record {
           below = omega (arith, more);
-          from_is = rw (add-one p) refl;
           forth_left = rw forth (left_next g.forth_left more);
           back_left = rw back (left_next g.back_left more);
           first_left = rw first (left_next g.first_left more);

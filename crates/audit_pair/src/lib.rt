@@ -2,15 +2,17 @@
 // Rests on posting, and on audit_rule for what it means.
 #![tactic(auto)]
 
-ghost use Rattle.std.specs.Prelude.{◌≡◌, true, ◌&&◌, ℕ, ◌<◌, ◌≤◌, eqb, length, get_or, set};
+ghost use Rattle.std.specs.Prelude.{◌≡◌, true, ◌&&◌, ℕ, ◌<◌, ◌≤◌, length, get_or, set};
 ghost use Rattle.posting.specs.Conflicts.{conflict};
-ghost use Rattle.audit_rule.specs.Audit.{lowest, finding, ahead_of};
-ghost use Rattle.audit_rule.specs.Handed.{posting_at, table_of, record_of, part, place_of};
+ghost use Rattle.audit_rule.specs.Audit.{finding, ahead_of};
+ghost use Rattle.audit_rule.specs.Searches.{lowest_below};
+ghost use Rattle.audit_rule.specs.Handed.{start_of, table_of, record_of, place_of};
 ghost use Rattle.audit_rule.specs.Needs.{Rising, Numbered};
 ghost use Rattle.audit_pair.specs.Pair.{stands, taken, with_site, sites_of, differing, raised, mark_of, one_sided, mark_differs, Fields, Markable};
+ghost use Rattle.audit_pair.specs.Standings.{code_of};
 ghost use Rattle.audit_pair.specs.Numbers.{found};
 
-use posting::Posting;
+use audit_rule::{Postings, Records};
 
 // What is answered of a pair: crossed, if site `here` has `first` ahead of `second` and site `there` has them the other way round; missing, if
 // `here` has `second` without `first`, which `there` has ahead of it; apart, if `here` has `first`, `there` has `second`, and no site has both.
@@ -30,13 +32,13 @@ pub struct Found {
 }
 
 // How x and y stand in a record: x ahead of y, y ahead of x, y alone, x alone.
-const FORTH: u8 = 1;
-
-const BACK: u8 = 2;
-
-const Y_ALONE: u8 = 3;
-
-const X_ALONE: u8 = 4;
+#[derive(Clone, Copy, Debug, PartialEq, Eq)]
+enum Standing {
+    Forth,
+    Back,
+    YAlone,
+    XAlone,
+}
 
 // The lowest site that has x ahead of y, y ahead of x, x alone and y alone; as many as there are sites if there is none.
 #[derive(Drop)]
@@ -58,88 +60,78 @@ const BOTH: u8 = 3;
 pub fn place_of(lines: &[u16], x: u16) -> usize
     ensures { result ≡ place_of x lines.now }
 {
-    let mut i = 0;
-    while i < lines.len() {
-        let z = lines[i];
-        if z == x {
-            return i;
-        }
-        i += 1;
-    }
-    i
+    lines.iter().position(|z| *z == x).unwrap_or(lines.len())
 }
 
-// How x and y stand in a record; 0 if neither is there, or x is y.
-fn stands(lines: &[u16], x: u16, y: u16) -> u8
-    ensures { result ≡ stands x y lines.now }
+// How x and y stand in a record; None if neither is there, or x is y.
+#[tactic(auto, unfolding(crate::specs::Pair::stands))]
+fn stands(lines: &[u16], x: u16, y: u16) -> Option<Standing>
+    ensures { code_of result ≡ stands x y lines.now }
 {
     let end = lines.len();
     let i = place_of(lines, x);
     let j = place_of(lines, y);
     if i == j {
-        return 0;
+        None
+    } else if i == end {
+        Some(Standing::YAlone)
+    } else if j == end {
+        Some(Standing::XAlone)
+    } else if i < j {
+        Some(Standing::Forth)
+    } else {
+        Some(Standing::Back)
     }
-    if i == end {
-        return Y_ALONE;
-    }
-    if j == end {
-        return X_ALONE;
-    }
-    if i < j {
-        return FORTH;
-    }
-    BACK
 }
 
-// The lowest site of a sort, once site p is known to be of it or not; n stands for none.
-fn taken(n: usize, p: usize, code: u8, own: u8, lowest: usize) -> usize
-    ensures { result ≡ taken n p (eqb code own) lowest }
+// The lowest site of a sort, where site p is of it; n stands for none so far.
+#[tactic(auto, unfolding(crate::specs::Pair::taken))]
+fn taken(n: usize, p: usize, lowest: usize) -> usize
+    ensures { result ≡ taken n p true lowest }
 {
-    if code != own {
-        return lowest;
-    }
-    if lowest == n {
-        return p;
-    }
-    lowest
+    if lowest == n { p } else { lowest }
 }
 
-// Site p, in which x and y stand as the code says, is taken into the lowest ones.
-fn with_site(n: usize, p: usize, code: u8, sites: Sites) -> Sites
-    ensures { result ≡ with_site n p code sites }
+// Site p, in which x and y stand so, is taken into the lowest ones.
+#[tactic(auto, unfolding(crate::specs::Pair::with_site, crate::specs::Pair::taken))]
+fn with_site(n: usize, p: usize, standing: Option<Standing>, sites: Sites) -> Sites
+    ensures { result ≡ with_site n p (code_of standing) sites }
 {
-    let forth = taken(n, p, code, FORTH, sites.forth);
-    let back = taken(n, p, code, BACK, sites.back);
-    let first = taken(n, p, code, X_ALONE, sites.first);
-    let second = taken(n, p, code, Y_ALONE, sites.second);
-    Sites {
-        forth: forth,
-        back: back,
-        first: first,
-        second: second,
+    match standing {
+        None => sites,
+        Some(Standing::Forth) => Sites {
+            forth: taken(n, p, sites.forth),
+            ..sites
+        },
+        Some(Standing::Back) => Sites {
+            back: taken(n, p, sites.back),
+            ..sites
+        },
+        Some(Standing::YAlone) => Sites {
+            second: taken(n, p, sites.second),
+            ..sites
+        },
+        Some(Standing::XAlone) => Sites {
+            first: taken(n, p, sites.first),
+            ..sites
+        },
     }
 }
 
 // The lowest site of each sort, by one scan of the records.
-fn sites_of(lines: &[u16], ends: &[usize], x: u16, y: u16) -> Sites
-    requires { Rising lines.now ends.now }
-    ensures { result ≡ sites_of (length ends.now) (record_of lines.now ends.now) x y }
+fn sites_of(records: Records, x: u16, y: u16) -> Sites
+    requires { Rising records.lines.now records.ends.now }
+    ensures { result ≡ sites_of (length records.entry.ends.now) (record_of records.entry.lines.now records.entry.ends.now) x y }
 {
-    let n = ends.len();
+    let n = records.ends.len();
     let mut sites = Sites {
         forth: n,
         back: n,
         first: n,
         second: n,
     };
-    let mut from = 0;
-    let mut p = 0;
-    while p < ends.len() {
-        let to = ends[p];
-        let code = stands(&lines[from..to], x, y);
-        sites = with_site(n, p, code, sites);
-        from = to;
-        p += 1;
+    for p in 0..n {
+        sites = with_site(n, p, stands(records.record_of(p), x, y), sites);
     }
     sites
 }
@@ -149,11 +141,11 @@ fn answer(code: u8, first: u16, second: u16, here: usize, there: usize) -> Found
     ensures { result ≡ record { code = code; first = first; second = second; here = here; there = there } }
 {
     Found {
-        code: code,
-        first: first,
-        second: second,
-        here: here,
-        there: there,
+        code,
+        first,
+        second,
+        here,
+        there,
     }
 }
 
@@ -165,63 +157,44 @@ fn sound() -> Found
 }
 
 // What the records say of x and y.
-pub fn finding(lines: &[u16], ends: &[usize], x: u16, y: u16) -> Found
-    requires { Rising lines.now ends.now }
-    ensures { result ≡ found (finding (length ends.now) (record_of lines.now ends.now) x y) }
+#[tactic(auto, unfolding(crate::specs::Pair::sites_of, audit_rule::specs::Audit::finding, crate::specs::Numbers::found))]
+pub fn finding(records: Records, x: u16, y: u16) -> Found
+    requires { Rising records.lines.now records.ends.now }
+    ensures { result ≡ found (finding (length records.entry.ends.now) (record_of records.entry.lines.now records.entry.ends.now) x y) }
 {
-    let n = ends.len();
-    let s = sites_of(lines, ends, x, y);
+    let n = records.ends.len();
+    let s = sites_of(records, x, y);
     if s.forth < n {
         if s.back < n {
-            return answer(CROSSED, x, y, s.forth, s.back);
+            answer(CROSSED, x, y, s.forth, s.back)
+        } else if s.second < n {
+            answer(MISSING, x, y, s.second, s.forth)
+        } else {
+            sound()
         }
-        if s.second < n {
-            return answer(MISSING, x, y, s.second, s.forth);
-        }
-        return sound();
-    }
-    if s.back < n {
+    } else if s.back < n {
         if s.first < n {
-            return answer(MISSING, y, x, s.first, s.back);
+            answer(MISSING, y, x, s.first, s.back)
+        } else {
+            sound()
         }
-        return sound();
+    } else if s.second < n && s.first < n {
+        answer(APART, x, y, s.first, s.second)
+    } else {
+        sound()
     }
-    if n <= s.second {
-        return sound();
-    }
-    if n <= s.first {
-        return sound();
-    }
-    answer(APART, x, y, s.first, s.second)
 }
 
 // ---- the lowest posting that differs at a line
 
-// Takes all marks away.
-pub fn clear(marks: &mut [u8])
-    ensures { (x : ℕ) → get_or marks.new x 0 ≡ 0 }
-{
-    let mut i = 0;
-    while i < marks.len() {
-        marks[i] = 0;
-        i += 1;
-    }
-}
-
-fn wide(x: u16) -> usize
-    ensures { result ≡ x }
-{
-    x as usize
-}
-
 // A mark below a size is raised by it, once.
+#[tactic(auto, unfolding(crate::specs::Pair::raised))]
 fn mark(x: usize, size: u8, marks: &mut [u8])
     requires { (x < length marks.old) × (size < 128) }
     ensures { marks.new ≡ set marks.old x (raised size true (get_or marks.old x 0)) }
 {
-    let old = marks[x];
-    if old < size {
-        marks[x] = old + size;
+    if marks[x] < size {
+        marks[x] += size;
     }
 }
 
@@ -230,109 +203,60 @@ fn mark_ahead(lines: &[u16], y: u16, size: u8, marks: &mut [u8])
     requires { Numbered lines.now (length marks.old) × (size < 128) }
     ensures { (x : ℕ) → get_or marks.new x 0 ≡ raised size (ahead_of x y lines.now) (get_or marks.old x 0) }
 {
-    let mut i = 0;
-    while i < lines.len() {
-        let z = lines[i];
-        if z == y {
+    for z in lines {
+        if *z == y {
             return;
         }
-        let x = wide(z);
-        mark(x, size, marks);
-        i += 1;
+        mark(usize::from(*z), size, marks);
     }
 }
 
-// Marks, from nothing, what stands ahead of y in the lines from `from` up to `to`, and in all lines.
-fn mark_both(lines: &[u16], from: usize, to: usize, y: u16, marks: &mut [u8])
-    requires { (from ≤ to) × (to ≤ length lines.now) × Numbered lines.now (length marks.old) }
-    ensures { (x : ℕ) → get_or marks.new x 0 ≡ mark_of (part from to lines.now) lines.now y x }
+// Marks, from nothing, what stands ahead of y in a record, and in all lines.
+fn mark_both(own: &[u16], lines: &[u16], y: u16, marks: &mut [u8])
+    requires { Numbered own.now (length marks.old) × Numbered lines.now (length marks.old) }
+    ensures { (x : ℕ) → get_or marks.new x 0 ≡ mark_of own.now lines.now y x }
 {
-    clear(marks);
-    mark_ahead(&lines[from..to], y, IN_RECORD, marks);
+    marks.fill(0);
+    mark_ahead(own, y, IN_RECORD, marks);
     mark_ahead(lines, y, IN_ALL, marks);
 }
 
-// The posting with number x, from its fields.
-pub fn posting_at(kinds: &[u8], firsts: &[u8], seconds: &[u8], amounts: &[u32], x: usize) -> Posting
-    requires { Fields kinds.now firsts.now seconds.now amounts.now × (x < length kinds.now) }
-    ensures { result ≡ posting_at kinds.now firsts.now seconds.now amounts.now x }
-{
-    Posting {
-        owner: 0,
-        kind: kinds[x],
-        a: firsts[x],
-        b: seconds[x],
-        amount: amounts[x],
-    }
-}
-
 // Whether x has a mark of one sort only and conflicts with y. The mark is tested first: it is one comparison, and settles most x.
-fn mark_differs(
-    mark: u8,
-    matrix: u16,
-    kinds: &[u8],
-    firsts: &[u8],
-    seconds: &[u8],
-    amounts: &[u32],
-    x: usize,
-    y: usize,
-) -> bool
-    requires { Fields kinds.now firsts.now seconds.now amounts.now × (x < length kinds.now) × (y < length kinds.now) }
-    ensures { result ≡ one_sided mark && conflict matrix (table_of kinds.now firsts.now seconds.now amounts.now) x y }
+#[tactic(auto, unfolding(crate::specs::Pair::one_sided), using(crate::proofs::Marks::conflict_at))]
+fn mark_differs(mark: u8, matrix: u16, postings: Postings, x: usize, y: usize) -> bool
+    requires { Fields postings.kinds.now postings.firsts.now postings.seconds.now postings.amounts.now × (x < length postings.kinds.now) × (y < length postings.kinds.now) }
+    ensures { result ≡ one_sided mark && conflict matrix (table_of postings.entry.kinds.now postings.entry.firsts.now postings.entry.seconds.now postings.entry.amounts.now) x y }
 {
-    if mark == 0 {
-        return false;
-    }
-    if mark == BOTH {
-        return false;
-    }
-    let p = posting_at(kinds, firsts, seconds, amounts, x);
-    let q = posting_at(kinds, firsts, seconds, amounts, y);
-    posting::conflicting(matrix, x, p, y, q)
+    mark != 0
+        && mark != BOTH
+        && posting::conflicting(matrix, x, postings.posting_at(x), y, postings.posting_at(y))
 }
 
-// The lowest posting with a mark of one sort only that conflicts with y; as many as there are postings if there is none.
-fn lowest_marked(
-    matrix: u16,
-    kinds: &[u8],
-    firsts: &[u8],
-    seconds: &[u8],
-    amounts: &[u32],
-    y: usize,
-    marks: &[u8],
-) -> usize
-    requires { Fields kinds.now firsts.now seconds.now amounts.now × (y < length kinds.now) × (length kinds.now ≤ length marks.now) }
-    ensures { result ≡ lowest (mark_differs matrix (table_of kinds.now firsts.now seconds.now amounts.now) marks.now y) (length kinds.now) }
+// The lowest posting with a mark of one sort only that conflicts with y.
+fn lowest_marked(matrix: u16, postings: Postings, y: usize, marks: &[u8]) -> Option<usize>
+    requires { Fields postings.kinds.now postings.firsts.now postings.seconds.now postings.amounts.now × (y < length postings.kinds.now) × (length postings.kinds.now ≤ length marks.now) }
+    ensures { result ≡ lowest_below (mark_differs matrix (table_of postings.entry.kinds.now postings.entry.firsts.now postings.entry.seconds.now postings.entry.amounts.now) marks.now y) (length postings.entry.kinds.now) }
 {
-    let mut x = 0;
-    while x < kinds.len() {
-        let mark = marks[x];
-        let so = mark_differs(mark, matrix, kinds, firsts, seconds, amounts, x, y);
-        if so {
-            return x;
+    for x in 0..postings.kinds.len() {
+        if mark_differs(marks[x], matrix, postings, x, y) {
+            return Some(x);
         }
-        x += 1;
     }
-    x
+    None
 }
 
-// The lowest posting that conflicts with y and stands ahead of it in the lines from `from` up to `to`, or in all lines, and not in both.
+// The lowest posting that conflicts with y and stands ahead of it in a site's record, or in all lines, and not in both.
 pub fn lowest_differing(
     matrix: u16,
-    kinds: &[u8],
-    firsts: &[u8],
-    seconds: &[u8],
-    amounts: &[u32],
-    lines: &[u16],
-    from: usize,
-    to: usize,
+    postings: Postings,
+    records: Records,
+    site: usize,
     y: u16,
     marks: &mut [u8],
-) -> usize
-    requires { Markable kinds.now firsts.now seconds.now amounts.now lines.now from to y marks.old }
-    ensures { result ≡ lowest (differing matrix (table_of kinds.now firsts.now seconds.now amounts.now) (part from to lines.now) lines.now y) (length kinds.now) }
+) -> Option<usize>
+    requires { Rising records.lines.now records.ends.now × (site < length records.ends.now) × Markable postings.kinds.now postings.firsts.now postings.seconds.now postings.amounts.now records.lines.now (start_of records.ends.now site) (get_or records.ends.now site 0) y marks.old }
+    ensures { result ≡ lowest_below (differing matrix (table_of postings.entry.kinds.now postings.entry.firsts.now postings.entry.seconds.now postings.entry.amounts.now) (record_of records.entry.lines.now records.entry.ends.now site) records.entry.lines.now y) (length postings.entry.kinds.now) }
 {
-    mark_both(lines, from, to, y, marks);
-    let v = wide(y);
-    lowest_marked(matrix, kinds, firsts, seconds, amounts, v, marks)
+    mark_both(records.record_of(site), records.lines, y, marks);
+    lowest_marked(matrix, postings, usize::from(y), marks)
 }

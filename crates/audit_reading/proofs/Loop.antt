@@ -2,23 +2,21 @@
 -- Rests on Meaning. Assumes nothing.
 use Prim.Native.Nat.{ℕ, zero, suc, ◌+◌, ◌*◌, ◌<◌, ◌≤◌, max}
 use mathlib.Core.Path.{◌≡◌, refl, sym, ap, ◌∙◌, subst}
-use mathlib.Core.Logic.{inl, inr, ◌≢◌}
-use mathlib.Core.Bool.{true, cond}
+use mathlib.Core.Logic.{inl}
+use mathlib.Core.Bool.{Bool, true, false}
 use mathlib.Core.List.{List, [], ◌∷◌, ◌++◌, append-nil}
 use native.Mathlib.Omega.{arith}
 use native.Mathlib.Decide.{ℕ_discrete}
 use native.Mathlib.Numerals.{add-one}
 use lib.ListN.{length, get_or, take, replicate, length-set, length-replicate}
-use lib.Seq.{take-suc, take_all}
+use lib.Seq.{take-suc}
 use borrow.Author.Tests.{eq-eqb, ne_eqb}
-use Rattle.sets.proofs.Truth.{test}
 use Rattle.posting.specs.declared.Table.{Table}
-use Rattle.broadcast.proofs.Lists.{in_right}
 use Rattle.audit_rule.specs.Reading.{row_in, line_fits}
-use Rattle.audit_reading.specs.Kept.{classes, Rows, Known, NotedIn, TalliedIn, Readable, line_ok, Whole, Broken, AtMost, own_class, counted, reached, four_put, places_after, seen_after, totals_after, ahead_after, fits_now}
+use Rattle.audit_reading.specs.Kept.{classes, Rows, Known, NotedIn, TalliedIn, Readable, line_ok, Broken, AtMost, own_class, counted, reached, four_put, places_after, seen_after, totals_after, ahead_after, fits_now}
 use Rattle.audit_reading.proofs.Bumps.{changed_length, changed_most}
 use Rattle.audit_reading.proofs.RowLaws.{Row, row_is}
-use Rattle.audit_reading.proofs.Meaning.{line_test, line_noted, line_tallied, note_one, four_length}
+use Rattle.audit_reading.proofs.Meaning.{line_test, line_noted, line_tallied, four_length}
 
 -- ---- lengths and bounds
 
@@ -81,7 +79,7 @@ module _ {matrix : ℕ} {kinds firsts seconds lines : List ℕ} {seen : ℕ} {to
   abbrev b : ℕ
   b = row_in kind (get_or firsts y 0) (get_or seconds y 0) (get_or seconds y 0)
 
-  y_known : Known kinds firsts seconds places₀ ahead₀ y
+  pub y_known : Known kinds firsts seconds places₀ ahead₀ y
   y_known = subst (Known kinds firsts seconds places₀ ahead₀) (sym y-is) (r.known i more)
 
   y_row : (t : Table) → Rows t kinds firsts seconds (length kinds) → Row t y kind a b
@@ -127,37 +125,19 @@ module _ {matrix : ℕ} {kinds firsts seconds lines : List ℕ} {seen : ℕ} {to
     ];
   }
 
-  pub going_again : {next : ℕ} {totals' places' ahead' counts' highest' : List ℕ}
-      → next ≡ cond (fits_now matrix y kind a b given counts highest totals places ahead) (seen_after places y given) 0 → next ≢ 0
+  pub going_again : {ok : Bool} {given' : ℕ} {totals' places' ahead' counts' highest' : List ℕ}
+      → ok ≡ fits_now matrix y kind a b given counts highest totals places ahead → ok ≡ true → given' ≡ seen_after places y given
       → places' ≡ places_after places y given → totals' ≡ totals_after places y kind a b totals → ahead' ≡ ahead_after places y a b totals ahead
-      → counts' ≡ cond (fits_now matrix y kind a b given counts highest totals places ahead) (counted counts kind a b) counts
-      → highest' ≡ cond (fits_now matrix y kind a b given counts highest totals places ahead) (reached highest kind a b (get_or (places_after places y given) y 0)) highest
-      → Going matrix kinds firsts seconds lines seen totals₀ places₀ ahead₀ totals' places' ahead' counts' highest' next (i + 1)
-  going_again {next} {totals'} {places'} {ahead'} {counts'} {highest'} en some ep et ea ec eh = elim (test (fits_now matrix y kind a b given counts highest totals places ahead)) [
-    | inr f ↦ absurd (some (en ∙ rw f))
-    | inl u ↦
-        let n : next ≡ seen_after places y given = en ∙ rw u in
-        let c : counts' ≡ counted counts kind a b = ec ∙ rw u in
-        let h : highest' ≡ reached highest kind a b (get_or (places_after places y given) y 0) = eh ∙ rw u in
-        rw (n, ep, et, ea, c, h) (going_next u)
-  ]
+      → counts' ≡ counted counts kind a b → highest' ≡ reached highest kind a b (get_or (places_after places y given) y 0)
+      → Going matrix kinds firsts seconds lines seen totals₀ places₀ ahead₀ totals' places' ahead' counts' highest' given' (i + 1)
+  going_again is fits n ep et ea c h = rw (n, ep, et, ea, c, h) (going_next (sym is ∙ fits))
 
-  -- after a line the last place given is not 0
-  given_some : (t : Table) (read : List ℕ) → Rows t kinds firsts seconds (length kinds) → NotedIn t read places₀ seen totals₀ ahead₀ → 1 ≤ seen_after places y given
-  given_some t read rows n =
-      let k = note_one t y kind a b (y_row t rows) (read ++ take i lines) places given totals ahead (g.notes t read rows n) y_room y_ahead g.full_totals in
-      let p = k.placed y (in_right y (read ++ take i lines) (y ∷ []) (inl refl)) in
-      let m = k.most y in omega (arith, p, m)
-
-  pub going_breaks : {next : ℕ} → next ≡ cond (fits_now matrix y kind a b given counts highest totals places ahead) (seen_after places y given) 0 → next ≡ 0
+  pub going_breaks : {ok : Bool} → ok ≡ fits_now matrix y kind a b given counts highest totals places ahead → ok ≡ false
       → (t : Table) (read : List ℕ) → Rows t kinds firsts seconds (length kinds) → NotedIn t read places₀ seen totals₀ ahead₀ → Broken matrix t read lines i
-  going_breaks {next} is none t read rows n = record {
+  going_breaks is breaks t read rows n = record {
     within = more;
     fit = g.fit t read rows n;
-    breaks = elim (test (fits_now matrix y kind a b given counts highest totals places ahead)) [
-      | inl u ↦ let e : next ≡ seen_after places y given = is ∙ rw u in let l = given_some t read rows n in absurd (omega (arith, e, none, l))
-      | inr f ↦ sym (test_is t read rows n) ∙ f
-    ];
+    breaks = sym (test_is t read rows n) ∙ sym is ∙ breaks;
   }
 
 pub zeros_at : (n c : ℕ) → ◌≡◌ {A = ℕ} (get_or (replicate n 0) c 0) 0
@@ -185,13 +165,3 @@ going_start matrix kinds firsts seconds lines seen totals places ahead full most
   where
     zero_at : (c : ℕ) → ◌≡◌ {A = ℕ} (get_or (replicate classes 0) c 0) 0
     zero_at c = zeros_at classes c
-
--- at the end
-module _ {matrix : ℕ} {kinds firsts seconds lines : List ℕ} {seen : ℕ} {totals₀ places₀ ahead₀ totals places ahead counts highest : List ℕ} {given i : ℕ}
-    (g : Going matrix kinds firsts seconds lines seen totals₀ places₀ ahead₀ totals places ahead counts highest given i) (end : length lines ≤ i) where
-  pub going_ends : (t : Table) (read : List ℕ) → Rows t kinds firsts seconds (length kinds) → NotedIn t read places₀ seen totals₀ ahead₀
-      → Whole matrix t read lines places given totals ahead
-  going_ends t read rows n = record {
-    notes = subst (λ (l : List ℕ). NotedIn t (read ++ l) places given totals ahead) (take_all i lines end) (g.notes t read rows n);
-    fit = λ j h. g.fit t read rows n j (omega (arith, h, end));
-  }

@@ -10,29 +10,27 @@ use native.Mathlib.Numerals.{add-one}
 use lib.ListN.{length, get_or, replicate, length-replicate}
 use Rattle.posting.specs.declared.Table.{Table}
 use Rattle.audit_rule.specs.Audit.{joined}
-use Rattle.audit_rule.specs.Handed.{start_of, part, record_of}
+use Rattle.audit_rule.specs.Handed.{start_of, record_of}
 use Rattle.audit_rule.proofs.Handed.{part_length, part_at}
 use Rattle.audit_reading.specs.Kept.{classes, Rows, Known, NotedIn, Readable, ReadSays, AtMost}
 use Rattle.audit_reading.specs.Sites.{site_ok, Auditable, FirstUnfit}
 use Rattle.audit_reading.proofs.Loop.{zeros_at}
 
 module _ (matrix : ℕ) (kinds firsts seconds lines ends places₀ ahead₀ : List ℕ) where
-  pub record Touring (places ahead totals : List ℕ) (seen from p : ℕ) : Type 0 where
+  pub record Touring (places ahead totals : List ℕ) (seen p : ℕ) : Type 0 where
     pub below : p ≤ length ends
-    pub from_is : from ≡ start_of ends p
     pub same_places : length places ≡ length places₀
     pub same_ahead : length ahead ≡ length ahead₀
     pub full : length totals ≡ classes
-    pub few : seen ≤ from
+    pub few : seen ≤ start_of ends p
     pub most : AtMost totals seen
     pub notes : (t : Table) → Rows t kinds firsts seconds (length kinds) → NotedIn t (joined (record_of lines ends) p) places seen totals ahead
     pub fit : (t : Table) → Rows t kinds firsts seconds (length kinds) → (q j : ℕ) → q < p → j < length (record_of lines ends q) → site_ok matrix t lines ends q j ≡ true
 
 module _ {matrix : ℕ} {kinds firsts seconds lines ends places₀ ahead₀ : List ℕ} (ok : Auditable kinds firsts seconds lines ends places₀ ahead₀) where
-  pub tour_start : Touring matrix kinds firsts seconds lines ends places₀ ahead₀ places₀ ahead₀ (replicate classes 0) 0 0 0
+  pub tour_start : Touring matrix kinds firsts seconds lines ends places₀ ahead₀ places₀ ahead₀ (replicate classes 0) 0 0
   tour_start = record {
     below = omega arith;
-    from_is = refl;
     same_places = refl;
     same_ahead = refl;
     full = length-replicate {A = ℕ} classes 0;
@@ -50,27 +48,21 @@ module _ {matrix : ℕ} {kinds firsts seconds lines ends places₀ ahead₀ : Li
     fit = λ t rows q j h. absurd (omega (arith, h));
   }
 
-  module _ {places ahead totals : List ℕ} {seen from p to : ℕ} (g : Touring matrix kinds firsts seconds lines ends places₀ ahead₀ places ahead totals seen from p) (more : p < length ends) (to_is : to ≡ get_or ends p 0) where
-    record_is : record_of lines ends p ≡ part from to lines
-    record_is = rw (g.from_is, to_is)
+  module _ {places ahead totals : List ℕ} {seen p : ℕ} (g : Touring matrix kinds firsts seconds lines ends places₀ ahead₀ places ahead totals seen p) (more : p < length ends) where
+    ordered : start_of ends p ≤ get_or ends p 0
+    ordered = ok.rising p more
 
-    ordered : from ≤ to
-    ordered = let h = ok.rising p more in omega (arith, h, g.from_is, to_is)
+    inside : get_or ends p 0 ≤ length lines
+    inside = ok.within p more
 
-    inside : to ≤ length lines
-    inside = let h = ok.within p more in omega (arith, h, to_is)
+    long : length (record_of lines ends p) ≡ get_or ends p 0 - start_of ends p
+    long = part_length (start_of ends p) (get_or ends p 0) lines inside
 
-    pub part_ordered : from ≤ to
-    part_ordered = ordered
-
-    pub part_inside : to ≤ length lines
-    part_inside = inside
-
-    pub tour_readable : Readable kinds firsts seconds (part from to lines) places ahead totals seen
-    tour_readable = let n = part_length from to lines inside in record {
+    pub tour_readable : Readable kinds firsts seconds (record_of lines ends p) places ahead totals seen
+    tour_readable = let n = long in record {
       known = λ i h.
-          let e = part_at from to lines i (omega (arith, h, n)) in
-          let k = subst (Known kinds firsts seconds places₀ ahead₀) (sym e) (ok.known (from + i) (omega (arith, h, n, inside))) in
+          let e = part_at (start_of ends p) (get_or ends p 0) lines i (omega (arith, h, n)) in
+          let k = subst (Known kinds firsts seconds places₀ ahead₀) (sym e) (ok.known (start_of ends p + i) (omega (arith, h, n, inside))) in
           record {
             in_kinds = k.in_kinds;
             in_firsts = k.in_firsts;
@@ -86,20 +78,19 @@ module _ {matrix : ℕ} {kinds firsts seconds lines ends places₀ ahead₀ : Li
     }
 
     module _ {places' ahead' totals' : List ℕ} {fits : Bool} {line seen' : ℕ}
-        (says : ReadSays matrix kinds firsts seconds (part from to lines) places seen totals ahead fits line places' seen' totals' ahead') where
+        (says : ReadSays matrix kinds firsts seconds (record_of lines ends p) places seen totals ahead fits line places' seen' totals' ahead') where
       pub tour_next : fits ≡ true → length places' ≡ length places → length ahead' ≡ length ahead
-          → (seen' ≤ seen + length (part from to lines)) × AtMost totals' seen' × (length totals' ≡ classes) → Touring matrix kinds firsts seconds lines ends places₀ ahead₀ places' ahead' totals' seen' to (p + 1)
-      tour_next u lp la num = let n = part_length from to lines inside in record {
+          → (seen' ≤ seen + length (record_of lines ends p)) × AtMost totals' seen' × (length totals' ≡ classes) → Touring matrix kinds firsts seconds lines ends places₀ ahead₀ places' ahead' totals' seen' (p + 1)
+      tour_next u lp la num = let n = long in record {
         below = omega (arith, more);
-        from_is = rw (add-one p) to_is;
         same_places = lp ∙ g.same_places;
         same_ahead = la ∙ g.same_ahead;
         full = num.2;
-        few = omega (arith, num.0, n, g.few, ordered);
+        few = rw (add-one p) (omega (arith, num.0, n, g.few, ordered));
         most = num.1;
-        notes = λ t rows. rw (add-one p, record_is) ((says t (joined (record_of lines ends) p) rows (g.notes t rows)).0 u).notes;
+        notes = λ t rows. rw (add-one p) ((says t (joined (record_of lines ends) p) rows (g.notes t rows)).0 u).notes;
         fit = λ t rows q j h l. elim (ℕ_discrete q p) [
-          | yes e ↦ rw (e, record_is) (((says t (joined (record_of lines ends) p) rows (g.notes t rows)).0 u).fit j (rw (e, record_is) at l))
+          | yes e ↦ rw e (((says t (joined (record_of lines ends) p) rows (g.notes t rows)).0 u).fit j (rw e at l))
           | no d ↦ g.fit t rows q j (omega (arith, h, d)) l
         ];
       }
@@ -109,8 +100,8 @@ module _ {matrix : ℕ} {kinds firsts seconds lines ends places₀ ahead₀ : Li
           let b = (says t (joined (record_of lines ends) p) rows (g.notes t rows)).1 f in
           record {
             site_below = more;
-            line_below = rw record_is b.within;
+            line_below = b.within;
             before = g.fit t rows;
-            over = λ j h. rw record_is (b.fit j h);
-            breaks = rw record_is b.breaks;
+            over = λ j h. b.fit j h;
+            breaks = b.breaks;
           }

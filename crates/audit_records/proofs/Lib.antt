@@ -2,5 +2,4 @@
 -- Rests on the specs.
 pub mod Pairs
 pub mod Lawful
-pub mod Stores
 pub mod Answers

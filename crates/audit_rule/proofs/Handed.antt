@@ -9,7 +9,6 @@ use lib.Seq.{length-take-le, get_or-take, get_or-drop}
 use Rattle.posting.specs.Conflicts.{no_posting, row}
 use Rattle.books.proofs.Lists.{get_d_tabulate}
 use Rattle.audit_rule.specs.Handed.{posting_at, table_of, part}
-use Rattle.audit_rule.specs.Needs.{Numbered}
 
 pub row_at : (kinds firsts seconds amounts : List ℕ) (x : ℕ) → x < length kinds
     → row (table_of kinds firsts seconds amounts) x ≡ posting_at kinds firsts seconds amounts x
@@ -23,9 +22,3 @@ part_length from to lines h = length-take-le (to - from) (drop from lines) (let 
 
 pub part_at : (from to : ℕ) (lines : List ℕ) (i : ℕ) → i < to - from → get_or (part from to lines) i 0 ≡ get_or lines (from + i) 0
 part_at from to lines i h = get_or-take (to - from) (drop from lines) i 0 h ∙ get_or-drop from lines i 0
-
-pub part_numbered : (from to n : ℕ) (lines : List ℕ) → to ≤ length lines → Numbered lines n → Numbered (part from to lines) n
-part_numbered from to n lines h numbered i l =
-    let long = part_length from to lines h in
-    let e = part_at from to lines i (omega (arith, l, long)) in
-    let b = numbered (from + i) (omega (arith, l, long, h)) in omega (arith, e, b)

@@ -7,7 +7,6 @@ use mathlib.Core.Bool.{Bool, true}
 use mathlib.Core.List.{List}
 use native.Mathlib.Omega.{arith}
 use Rattle.broadcast.specs.Lists.{In, NoRepeat, Before, mem, keep, share, OneOrder}
-use Rattle.broadcast.specs.Deliveries.{once}
 use Rattle.broadcast.proofs.Tests.{same_or}
 use Rattle.broadcast.proofs.Lists.{mem_in, in_mem, before_left, before_right, before_asym, keep_in, in_keep, keep_norepeat, keep_before, once_in, in_once, once_norepeat, once_before, ahead_asym}
 use Rattle.broadcast.proofs.Exchange.{exchanges}

@@ -1,6 +1,6 @@
 -- A line fits a class exactly if the same postings of the class stand above it as stood ahead of it where it was first read;
 -- and what a line is tested by is what the audit's definition asks. Rests on Order and Findings. Assumes nothing.
-use Prim.Native.Nat.{ℕ, suc, ◌+◌, ◌≤◌}
+use Prim.Native.Nat.{ℕ, suc, ◌≤◌}
 use mathlib.Core.Path.{◌≡◌, refl, sym, ap, ◌∙◌}
 use mathlib.Core.Logic.{inl, inr, ◌≢◌}
 use mathlib.Core.Bool.{Bool, true, cond, not, ◌||◌}

@@ -1,11 +1,14 @@
 -- The search for the lowest number of a test, number by number, as a loop does it.
 -- Rests on Audit. Assumes nothing.
 use Prim.Native.Nat.{ℕ, zero, suc, ◌+◌, ◌-◌, ◌<◌, ◌≤◌}
-use mathlib.Core.Path.{◌≡◌, refl}
+use mathlib.Core.Path.{◌≡◌, refl, sym}
 use mathlib.Core.Bool.{Bool, true, false}
+use Rattle.std.specs.Prelude.{Some, None}
+use borrow.Author.Tests.{lt-ltb, le-ltb}
 use native.Mathlib.Omega.{arith}
 use native.Mathlib.Numerals.{add-one}
 use Rattle.audit_rule.specs.Audit.{lowest_from, lowest}
+use Rattle.audit_rule.specs.Searches.{lowest_below}
 
 -- tests that agree below n have the same lowest number
 pub lowest_alike : (q r : ℕ → Bool) (k left : ℕ) → ((i : ℕ) → i < k + left → q i ≡ r i) → lowest_from q k left ≡ lowest_from r k left
@@ -34,3 +37,10 @@ module _ {q : ℕ → Bool} {n p : ℕ} (s : Seeking q n p) where
 
   pub seek_end : n ≤ p → p ≡ lowest q n
   seek_end h = let e : n - p ≡ 0 = omega (arith, h) in rw e at s.left
+
+  -- the same, as a search answers it
+  pub seek_some : p < n → q p ≡ true → Some p ≡ lowest_below q n
+  seek_some h t = let e = seek_here h t in rw (sym e, lt-ltb p n h)
+
+  pub seek_none : n ≤ p → None ≡ lowest_below q n
+  seek_none h = let e = seek_end h in rw (sym e, le-ltb p n h)

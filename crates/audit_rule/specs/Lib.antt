@@ -5,3 +5,4 @@ pub mod Handed
 pub mod Needs
 pub mod Reading
 pub mod Notes
+pub mod Searches

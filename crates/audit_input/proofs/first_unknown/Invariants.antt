@@ -1,13 +1,10 @@
--- `first_unknown` meets its contract.
--- Assumes nothing.
-use Prim.Native.Nat.{◌-◌}
-use lib.ListN.{length}
+-- The loop's invariant: the answer is what is left to search.
+-- Rests on audit_rule's Seeking. Assumes nothing.
+use Rattle.std.proofs.Common.{length}
+use Rattle.audit_rule.proofs.Seeking.{Seeking}
 use Rattle.audit_input.specs.Input.{unknown_line}
-use Rattle.audit_input.proofs.Searches.{Looked}
+use Rattle.audit_input.proofs.Searches.{has}
 use Rattle.audit_input.proofs.first_unknown.Given as goal
 
-abbrev pub invariant-loop-p : goal.invariant-loop-p
-invariant-loop-p l = Looked (unknown_line l.kinds) l.lines l.ends l.from l.p
-
-abbrev pub decreases-loop-p : goal.decreases-loop-p
-decreases-loop-p l = length l.ends - l.p
+abbrev pub invariant-loop-site : goal.invariant-loop-site
+invariant-loop-site l = Seeking (has (unknown_line l.kinds) l.records.lines.now l.records.ends.now) (length l.records.ends.now) l.site

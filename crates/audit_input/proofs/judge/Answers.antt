@@ -1,24 +1,44 @@
 -- `judge` meets its contract.
--- Assumes nothing.
-use mathlib.Core.Path.{sym, ◌∙◌}
-use lib.ListN.{length}
+-- Rests on Accepted and Judgements. Assumes nothing.
+use Rattle.std.proofs.Common.{length, sym, ap, refl, ◌∙◌, arith}
+use Rattle.audit_input.specs.Refusals.{judgement}
+use Rattle.audit_rule.proofs.Searches.{below_some, below_none}
 use Rattle.audit_input.proofs.Accepted.{sizes_none, judged_sizes, judged_fields, judged_lines}
+use Rattle.audit_input.proofs.Judgements.{number_above, as_error}
 use Rattle.audit_input.proofs.judge.Goals as goal
 
-pub returns-then-code-ne0 : goal.returns-then-code-ne0
-returns-then-code-ne0 c = c.refused.ensures ∙ judged_sizes c.args.matrix c.args.kinds.now c.args.firsts.now c.args.seconds.now c.args.amounts.now c.args.lines.now c.args.ends.now (length c.args.marks.now) c.args.places c.args.ahead _ c.sizes_code-code.ensures c.if-code-ne0.true
+pub returns-in-Some : goal.returns-in-Some
+returns-in-Some c =
+    let p = c.args.postings in
+    let r = c.args.records in
+    let above = number_above c.in-Some.why in
+    as_error _ _ _ c.refused.ensures
+    (judged_sizes c.args.matrix p.kinds.now p.firsts.now p.seconds.now p.amounts.now r.lines.now r.ends.now (length c.args.marks.now) c.args.places c.args.ahead _ c.in-Some.ensures (λ z. absurd (omega (arith, z)))) above
 
-pub first_unlawful-x-requires : goal.first_unlawful-x-requires
-first_unlawful-x-requires c = (sizes_none c.args.matrix c.args.kinds.now c.args.firsts.now c.args.seconds.now c.args.amounts.now c.args.lines.now c.args.ends.now (length c.args.marks.now) c.args.places c.args.ahead (sym c.sizes_code-code.ensures ∙ c.if-code-ne0.false)).fields
+pub first_unlawful-requires : goal.first_unlawful-requires
+first_unlawful-requires c =
+    let p = c.args.postings in
+    let r = c.args.records in
+    (sizes_none c.args.matrix p.kinds.now p.firsts.now p.seconds.now p.amounts.now r.lines.now r.ends.now (length c.args.marks.now) c.args.places c.args.ahead (sym c.in_default.ensures)).fields
 
-pub returns-then-x-kinds : goal.returns-then-x-kinds
-returns-then-x-kinds c = c.refused-then-x-kinds.ensures ∙ judged_fields c.args.matrix c.args.kinds.now c.args.firsts.now c.args.seconds.now c.args.amounts.now c.args.lines.now c.args.ends.now (length c.args.marks.now) c.args.places c.args.ahead _ _ c.sizes_code-code.ensures c.if-code-ne0.false c.first_unlawful-x.ensures c.if-x-kinds.true
+pub returns-in-Some-first_unlawful : goal.returns-in-Some-first_unlawful
+returns-in-Some-first_unlawful c =
+    let p = c.args.postings in
+    let r = c.args.records in
+    let (is, within) = below_some c.in-Some-first_unlawful.ensures in
+    as_error _ _ _ c.refused-in-Some-first_unlawful.ensures
+    (judged_fields c.args.matrix p.kinds.now p.firsts.now p.seconds.now p.amounts.now r.lines.now r.ends.now (length c.args.marks.now) c.args.places c.args.ahead 0 _ c.in_default.ensures refl is within) (omega arith)
 
 pub judge_lines-requires : goal.judge_lines-requires
-judge_lines-requires c = let s = sizes_none c.args.matrix c.args.kinds.now c.args.firsts.now c.args.seconds.now c.args.amounts.now c.args.lines.now c.args.ends.now (length c.args.marks.now) c.args.places c.args.ahead (sym c.sizes_code-code.ensures ∙ c.if-code-ne0.false) in (s.ends_rise, s.rooms.0, s.joins)
-
-pub shape_of-marks : goal.shape_of-marks
-shape_of-marks c = c.marks-1.given
+judge_lines-requires c =
+    let p = c.args.postings in
+    let r = c.args.records in
+    let s = sizes_none c.args.matrix p.kinds.now p.firsts.now p.seconds.now p.amounts.now r.lines.now r.ends.now (length c.args.marks.now) c.args.places c.args.ahead (sym c.in_default.ensures) in
+    (s.ends_rise, s.rooms.0, s.joins)
 
 pub returns : goal.returns
-returns c = c.judge_lines.ensures ∙ judged_lines c.args.matrix c.args.kinds.now c.args.firsts.now c.args.seconds.now c.args.amounts.now c.args.lines.now c.args.ends.now (length c.args.marks.now) c.args.places c.args.ahead _ _ c.sizes_code-code.ensures c.if-code-ne0.false c.first_unlawful-x.ensures c.if-x-kinds.false
+returns c =
+    let p = c.args.postings in
+    let r = c.args.records in
+    c.judge_lines.ensures
+    ∙ ap judgement (judged_lines c.args.matrix p.kinds.now p.firsts.now p.seconds.now p.amounts.now r.lines.now r.ends.now (length c.args.marks.now) c.args.places c.args.ahead 0 _ c.in_default.ensures refl refl (below_none c.in_default-first_unlawful.ensures))

@@ -1,48 +1,45 @@
 -- `judge_lines` meets its contract.
--- Assumes nothing.
-use Prim.Native.Nat.{◌<◌, ◌≤◌}
-use mathlib.Core.Path.{◌∙◌, subst, subst⁻¹}
-use lib.ListN.{length}
+-- Rests on Accepted and Judgements. Assumes nothing.
+use Rattle.std.proofs.Common.{length, refl, ap, arith}
 use Rattle.audit_rule.specs.Handed.{record_of}
-use Rattle.audit_input.specs.declared.Spot.{Spot}
+use Rattle.audit_input.specs.declared.Answer.{Answer}
 use Rattle.audit_input.specs.Input.{unknown_line, repeated_line}
-use Rattle.audit_input.proofs.Searches.{spot_line}
+use Rattle.audit_input.proofs.Searches.{spot_is, spot_is_past, spot_lies}
 use Rattle.audit_input.proofs.Accepted.{known_numbered, judged_unknown, judged_twice, judged_neither}
+use Rattle.audit_input.proofs.Judgements.{as_error, as_ok}
 use Rattle.audit_input.proofs.judge_lines.Goals as goal
 
-pub first_unknown-unknown-requires : goal.first_unknown-unknown-requires
-first_unknown-unknown-requires c = c.requires.0
-
 pub refused_unknown-requires : goal.refused_unknown-requires
-refused_unknown-requires c = let e = c.first_unknown-unknown.ensures in (
-  c.requires.0,
-  c.if-unknown-n.true,
-  subst⁻¹ (λ (s : Spot). s.line < length (record_of c.args.lines.now c.args.ends.now s.site)) e
-      (spot_line (unknown_line c.args.kinds.now) (length c.args.ends.now) (record_of c.args.lines.now c.args.ends.now) (subst (λ (s : Spot). s.site < length c.args.ends.now) e c.if-unknown-n.true)),
-)
+refused_unknown-requires c =
+    let r = c.args.records in
+    let l = spot_lies (unknown_line c.args.kinds.now) (length r.ends.now) (record_of r.lines.now r.ends.now) _ c.in-Some.ensures in
+    (c.requires.0, l.0, l.1)
 
-pub returns-then-unknown-n : goal.returns-then-unknown-n
-returns-then-unknown-n c = c.refused_unknown.ensures ∙ judged_unknown c.args.kinds.now c.args.lines.now c.args.ends.now _ c.first_unknown-unknown.ensures c.if-unknown-n.true
+pub returns-in-Some : goal.returns-in-Some
+returns-in-Some c =
+    let r = c.args.records in
+    let (is, within) = spot_is _ _ _ c.in-Some.ensures in
+    as_error _ _ _ c.refused_unknown.ensures (judged_unknown c.args.kinds.now r.lines.now r.ends.now c.in-Some.spot is within) (omega arith)
 
-pub first_repeat-twice-requires : goal.first_repeat-twice-requires
-first_repeat-twice-requires c = (c.requires.0, known_numbered c.args.kinds.now c.args.lines.now c.args.ends.now c.requires.2 (subst (λ (s : Spot). length c.args.ends.now ≤ s.site) c.first_unknown-unknown.ensures c.if-unknown-n.false) _ c.requires.1)
+pub first_repeat-requires : goal.first_repeat-requires
+first_repeat-requires c =
+    let r = c.args.records in
+    (c.requires.0, known_numbered c.args.kinds.now r.lines.now r.ends.now c.requires.2 (spot_is_past _ _ c.in_default.ensures) _ c.requires.1)
 
 pub refused_twice-requires : goal.refused_twice-requires
-refused_twice-requires c = let e = c.first_repeat-twice.ensures in (
-  c.requires.0,
-  c.if-twice-n.true,
-  subst⁻¹ (λ (s : Spot). s.line < length (record_of c.args.lines.now c.args.ends.now s.site)) e
-      (spot_line repeated_line (length c.args.ends.now) (record_of c.args.lines.now c.args.ends.now) (subst (λ (s : Spot). s.site < length c.args.ends.now) e c.if-twice-n.true)),
-)
+refused_twice-requires c =
+    let r = c.args.records in
+    let l = spot_lies repeated_line (length r.ends.now) (record_of r.lines.now r.ends.now) _ c.in-Some-first_repeat.ensures in
+    (c.requires.0, l.0, l.1)
 
-pub shape_of-marks-then-twice-n : goal.shape_of-marks-then-twice-n
-shape_of-marks-then-twice-n c = c.marks-1.given
-
-pub returns-then-twice-n : goal.returns-then-twice-n
-returns-then-twice-n c = c.refused_twice.ensures ∙ judged_twice c.args.kinds.now c.args.lines.now c.args.ends.now _ _ c.first_unknown-unknown.ensures c.if-unknown-n.false c.first_repeat-twice.ensures c.if-twice-n.true
-
-pub shape_of-marks : goal.shape_of-marks
-shape_of-marks c = c.marks-1.given
+pub returns-in-Some-first_repeat : goal.returns-in-Some-first_repeat
+returns-in-Some-first_repeat c =
+    let r = c.args.records in
+    let (is, within) = spot_is _ _ _ c.in-Some-first_repeat.ensures in
+    as_error _ _ _ c.refused_twice.ensures
+    (judged_twice c.args.kinds.now r.lines.now r.ends.now _ c.in-Some-first_repeat.spot refl (spot_is_past _ _ c.in_default.ensures) is within) (omega arith)
 
 pub returns : goal.returns
-returns c = c.refused.ensures ∙ judged_neither c.args.kinds.now c.args.lines.now c.args.ends.now _ _ c.first_unknown-unknown.ensures c.if-unknown-n.false c.first_repeat-twice.ensures c.if-twice-n.false
+returns c =
+    let r = c.args.records in
+    as_ok _ (ap (λ (a : Answer). a.code) (judged_neither c.args.kinds.now r.lines.now r.ends.now _ _ refl (spot_is_past _ _ c.in_default.ensures) refl (spot_is_past _ _ c.in_default-first_repeat.ensures)))

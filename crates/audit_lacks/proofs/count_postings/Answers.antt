@@ -1,39 +1,22 @@
--- `count_postings` meets its contract. The loop's invariant: the count of what stands below x.
--- Rests on Marks. Assumes nothing.
-use Prim.Native.Nat.{◌-◌}
-use mathlib.Core.Path.{ap, ◌∙◌}
-use mathlib.Core.Logic.{⊎_elim}
-use mathlib.Core.Bool.{not}
-use native.Mathlib.Omega.{arith}
-use lib.ListN.{length}
-use Rattle.sets.proofs.Truth.{failed, passed}
-use Rattle.audit_lacks.proofs.Marks.{used, count_start, count_most, count_yes, count_no, count_end}
+-- `count_postings` meets its contract.
+-- Rests on Lists. Assumes nothing.
+use Rattle.std.proofs.Common.{◌≡◌, ℕ, ◌<◌, eqb, not, length, get_or, List, rules, tests, ◌∙◌}
+use Rattle.std.proofs.lemmas.Iterator.{YieldsList-from_slice}
+use Rattle.std.proofs.lemmas.Iterator.Consumers.{YieldsList-from_filter, count_from_yields_List}
+use Rattle.std.proofs.lemmas.List.Sums.{length-filter}
+use borrow.Author.Tests.{lt-leb}
+use Rattle.sets.proofs.BelowLaws.{count_ext}
+use Rattle.audit_input.specs.Input.{unused}
+use Rattle.audit_lacks.proofs.Lists.{count_places}
 use Rattle.audit_lacks.proofs.count_postings.Goals as goal
-use Rattle.audit_lacks.proofs.count_postings.Goals.{then-free-eqfalse, else-free-eqfalse}
 
-pub loop-x-init : goal.loop-x-init
-loop-x-init c = (omega arith, count_start (used c.args.kinds.now))
-
-pub overflow_add-postings : goal.overflow_add-postings
-overflow_add-postings c =
-    let l = c.loop-x in
-    let most = count_most (used c.args.kinds.now) l.x in
-    omega (arith, most, l.invariant.1, c.loop-x-test.true, c.well_formed)
-
-pub loop-x-preserved : goal.loop-x-preserved
-loop-x-preserved c =
-    let kinds = c.args.kinds.now in
-    let l = c.loop-x in
-    let e = c.unused-free.ensures in (
-      omega (arith, c.loop-x-test.true),
-      elim c.if-free-eqfalse.branch [
-        | then-free-eqfalse w ↦ w.postings-is ∙ count_yes (used kinds) l.postings l.x l.invariant.1 (ap not (failed e w.if-free-eqfalse.true))
-        | else-free-eqfalse w ↦ w.postings-is ∙ count_no (used kinds) l.postings l.x l.invariant.1 (ap not (passed e w.if-free-eqfalse.false))
-      ],
-    )
+-- below the length a number is used if its kind says so
+used : (kinds : List ℕ) (x : ℕ) → x < length kinds → not (eqb (get_or kinds x 0) 255) ≡ not (unused kinds x)
+unfolding unused
+used kinds x h = rw (lt-leb (length kinds) x h)
 
 pub returns : goal.returns
 returns c =
     let kinds = c.args.kinds.now in
-    let l = c.loop-x in
-    count_end (used kinds) l.postings l.x (length kinds) l.invariant.1 l.invariant.0 (omega (arith, c.loop-x-test.false))
+    let n = count_from_yields_List c.filter.result c.count.result c.count.ensures.ran (YieldsList-from_filter _ (λ x. not (eqb x 255)) (YieldsList-from_slice kinds (cc)) c.filter.ensures.closure (λ x b q k. search (rules, tests))) in
+    n ∙ length-filter (λ x. not (eqb x 255)) kinds ∙ count_places (λ x. not (eqb x 255)) kinds ∙ count_ext (λ x. not (eqb (get_or kinds x 0) 255)) (λ x. not (unused kinds x)) (length kinds) (used kinds)

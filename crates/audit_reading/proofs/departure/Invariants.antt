@@ -1,12 +1,9 @@
--- `audit_reading::departure` meets its contract: after p sites what `Touring` says.
--- Assumes nothing.
-use Prim.Native.Nat.{◌-◌}
-use lib.ListN.{length}
+-- The loop's invariant: what holds after some of the records.
+-- Rests on Tour. Assumes nothing.
 use Rattle.audit_reading.proofs.Tour.{Touring}
 use Rattle.audit_reading.proofs.departure.Given as goal
 
-abbrev pub invariant-loop-p : goal.invariant-loop-p
-invariant-loop-p l = Touring l.matrix l.kinds l.firsts l.seconds l.lines l.ends l.initial.places l.initial.ahead l.places l.ahead l.totals l.seen l.from l.p
-
-abbrev pub decreases-loop-p : goal.decreases-loop-p
-decreases-loop-p l = length l.ends - l.p
+abbrev pub invariant-loop-site : goal.invariant-loop-site
+invariant-loop-site l =
+    Touring l.matrix l.postings.kinds.now l.postings.firsts.now l.postings.seconds.now l.records.lines.now l.records.ends.now l.initial.places l.initial.ahead
+    l.places l.ahead l.notes.totals l.notes.seen l.site

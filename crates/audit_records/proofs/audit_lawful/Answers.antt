@@ -1,17 +1,18 @@
 -- `audit_lawful` meets its contract.
--- Assumes nothing.
-use mathlib.Core.Path.{refl, ◌∙◌}
+-- Rests on Lawful. Assumes nothing.
+use Rattle.std.proofs.Common.{refl, ◌∙◌, arith}
+use Rattle.std.proofs.lemmas.Grind.{common_steps}
 use Rattle.audit_records.proofs.Lawful.{lawful_auditable, lawful_agreed, lawful_departs, lawful_pair}
 use Rattle.audit_records.proofs.audit_lawful.Goals as goal
 
-pub departure-read-requires : goal.departure-read-requires
-departure-read-requires c = lawful_auditable c.requires _ _ c.clear_places.ensures c.places-1.given refl
-
-pub returns-then-agreed : goal.returns-then-agreed
-returns-then-agreed c = c.agreement.ensures ∙ lawful_agreed c.requires c.departure-read.ensures c.if-agreed.true
+pub departure-requires : goal.departure-requires
+departure-requires c = lawful_auditable c.requires _ _ (λ x. grind (arith, common_steps)) c.fill.auto.self refl
 
 pub pair_at-requires : goal.pair_at-requires
-pair_at-requires c = lawful_pair c.requires c.departure-read.ensures c.if-agreed.false
+pair_at-requires c = lawful_pair c.requires c.in-Some.ensures refl
 
-pub returns : goal.returns
-returns c = c.pair_at.ensures ∙ lawful_departs c.requires c.departure-read.ensures c.if-agreed.false
+pub returns-in-None : goal.returns-in-None
+returns-in-None c = lawful_agreed c.requires c.in-None.ensures refl
+
+pub returns-in-Some : goal.returns-in-Some
+returns-in-Some c = c.pair_at.ensures ∙ lawful_departs c.requires c.in-Some.ensures refl
