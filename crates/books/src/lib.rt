@@ -177,7 +177,7 @@ pub fn posted(table: Table, delivered: Record, opening: Sheet) -> Sheet
 }
 
 // The four numbers of an account go to a place of the slice.
-fn put(s: Figures, at: usize, out: &mut [i64])
+pub fn put(s: Figures, at: usize, out: &mut [i64])
     requires { at + 4 ≤ length out.old }
     ensures { out.new ≡ take at out.old ++ four s ++ drop (at + 4) out.old }
 {

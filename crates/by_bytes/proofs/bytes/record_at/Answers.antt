@@ -3,7 +3,6 @@
 use Prim.Native.Nat.{ℕ, ◌+◌}
 use mathlib.Core.Path.{ap}
 use native.Mathlib.Omega.{arith}
-use borrow.Author.Rules.{rules}
 use Rattle.sets.specs.Sets.{capacity}
 use Rattle.by_bytes.specs.Bytes.{byte_at, record_at}
 use Rattle.by_bytes.proofs.Loops.{stored_none, stored_more, stored_all}

@@ -1,7 +1,7 @@
 -- `record_ok` meets its contract.
 -- Assumes nothing.
 use Rattle.std.proofs.Common.{rules, tests, arith}
-use mathlib.Core.Path.{◌≡◌, refl, ap, ◌∙◌}
+use mathlib.Core.Path.{◌≡◌, ◌∙◌}
 use Prim.Native.Nat.{ℕ}
 use lib.Dec.{ltb}
 use lib.ListN.{length, take}
@@ -15,7 +15,7 @@ use Rattle.by_bytes.proofs.bytes.record_ok.Goals as goal
 
 pub returns-then-delivered-le-POSTINGS : goal.returns-then-delivered-le-POSTINGS
 unfolding record_ok
-returns-then-delivered-le-POSTINGS c = 
+returns-then-delivered-le-POSTINGS c =
     let r = c.args.delivered in
     let long : length r.numbers ≡ capacity = search rules in
     let test = λ (m : ℕ). ltb m c.args.n in

@@ -1,10 +1,7 @@
 -- `records_of` meets its contract. The loop's invariant: the first s are stored.
 -- Assumes nothing.
-use Prim.Native.Nat.{ℕ, ◌+◌}
 use mathlib.Core.Path.{ap}
 use native.Mathlib.Omega.{arith}
-use borrow.Author.Rules.{rules}
-use Rattle.posting.specs.Records.{empty_record}
 use Rattle.by_bytes.specs.Bytes.{site_record, records_of}
 use Rattle.by_bytes.proofs.Loops.{stored_none, stored_more, stored_all}
 use Rattle.by_bytes.proofs.bytes.records_of.Goals as goal

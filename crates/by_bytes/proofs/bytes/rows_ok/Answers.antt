@@ -1,7 +1,7 @@
 -- `rows_ok` meets its contract.
 -- Assumes nothing.
 use Rattle.std.proofs.Common.{rules, tests, arith}
-use mathlib.Core.Path.{◌≡◌, refl, ap, ◌∙◌}
+use mathlib.Core.Path.{◌∙◌}
 use Prim.Native.Nat.{ℕ}
 use Rattle.std.proofs.lemmas.Iterator.{YieldsList-from_range}
 use Rattle.std.proofs.lemmas.Iterator.Search.{all_from_yields_List}
@@ -12,7 +12,7 @@ use Rattle.by_bytes.proofs.bytes.rows_ok.Goals as goal
 
 pub returns : goal.returns
 unfolding rows_ok
-returns c = 
+returns c =
     let bytes = c.args.bytes.now in
     let test = λ (m : ℕ). fields_ok (row_at bytes m) in
     all_from_yields_List test c.all.new.self _ _ c.all.ensures.ran (YieldsList-from_range 0 (row_count bytes) (row_count bytes) (cc) (omega arith)) (λ x b q k. search (rules, tests)) ∙ all_range test (row_count bytes)

@@ -1,12 +1,8 @@
 -- `table_of` meets its contract. The loop's invariant: the first m are stored.
 -- Assumes nothing.
-use Prim.Native.Nat.{ℕ, ◌+◌}
 use mathlib.Core.Path.{ap}
 use native.Mathlib.Omega.{arith}
-use borrow.Author.Rules.{rules}
-use mathlib.Core.Path.{◌≡◌}
 use Rattle.sets.specs.Sets.{capacity}
-use Rattle.posting.specs.Conflicts.{no_posting}
 use Rattle.by_bytes.specs.Bytes.{row_at, row_count, table_of}
 use Rattle.by_bytes.proofs.Loops.{stored_none, stored_more, stored_all}
 use Rattle.by_bytes.proofs.bytes.table_of.Goals as goal

@@ -1,6 +1,6 @@
 -- `table_ok` meets its contract.
 -- Assumes nothing.
-use Rattle.std.proofs.Common.{rules, tests, arith}
+use Rattle.std.proofs.Common.{rules, tests}
 use mathlib.Core.Path.{sym, ◌∙◌}
 use Rattle.by_bytes.specs.Bytes.{table_ok}
 use Rattle.by_bytes.proofs.Reading.{rows_length}

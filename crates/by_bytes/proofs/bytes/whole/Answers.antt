@@ -1,6 +1,6 @@
 -- `whole` meets its contract.
 -- Assumes nothing.
-use Rattle.std.proofs.Common.{rules, tests, arith}
+use Rattle.std.proofs.Common.{rules, tests}
 use Rattle.by_bytes.specs.Bytes.{whole}
 use Rattle.by_bytes.proofs.bytes.whole.Goals as goal
 
