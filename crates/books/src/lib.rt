@@ -20,7 +20,7 @@ pub const SITES: usize = masks::SITES as usize;
 pub const FIGURES: usize = 4 * ACCOUNTS;
 
 // The four numbers of an account.
-#[derive(Clone, Copy)]
+#[derive(Clone, Copy, Default, PartialEq, Eq)]
 pub struct Figures {
     pub position: i64,
     pub rate: i64,
@@ -29,13 +29,13 @@ pub struct Figures {
 }
 
 // The figures of all accounts.
-#[derive(Clone, Copy)]
+#[derive(Clone, Copy, PartialEq, Eq)]
 pub struct Sheet {
     pub accounts: [Figures; ACCOUNTS],
 }
 
 // The records of the sites, by number.
-#[derive(Clone, Copy)]
+#[derive(Clone, Copy, PartialEq, Eq)]
 pub struct Records {
     pub sites: [Record; SITES],
 }
@@ -44,14 +44,8 @@ pub struct Records {
 pub fn blank() -> Sheet
     ensures { result ≡ sheet_of blank }
 {
-    let zeros = Figures {
-        position: 0,
-        rate: 0,
-        called: 0,
-        settled: 0,
-    };
     Sheet {
-        accounts: [zeros; ACCOUNTS],
+        accounts: [Figures::default(); ACCOUNTS],
     }
 }
 
@@ -59,10 +53,7 @@ pub fn blank() -> Sheet
 pub fn size(x: i64) -> u64
     ensures { result ≡ nat_abs x }
 {
-    if x < 0 {
-        return ((-1 - x) as u64) + 1;
-    }
-    x as u64
+    x.unsigned_abs()
 }
 
 // Where the position is above zero, the size of position × rate ÷ 10,000, rounded up; elsewhere nothing.
@@ -71,10 +62,10 @@ pub fn size_of_call(position: i64, rate: i64) -> u64
     ensures { result ≡ size_of_call position rate }
 {
     if 0 < position {
-        let product = position * rate;
-        return ten_thousandths::rounded_up(size(product));
+        ten_thousandths::rounded_up(size(position * rate))
+    } else {
+        0
     }
-    0
 }
 
 // TRADE at account k: the position of a rises, of b falls, by the amount.
@@ -82,23 +73,23 @@ pub fn trade(p: Posting, k: u8, s: Figures) -> Figures
     requires { Room s }
     ensures { result ≡ on_trade p k s }
 {
-    let mut t = s;
-    let amount = p.amount as i64;
-    if k == p.a {
-        t.position = s.position + amount;
-        return t;
-    }
-    t.position = s.position - amount;
-    t
+    let amount = i64::from(p.amount);
+    let position = if k == p.a {
+        s.position + amount
+    } else {
+        s.position - amount
+    };
+    Figures { position, ..s }
 }
 
 // RATE: the rate becomes the amount.
 pub fn rate(amount: u32, s: Figures) -> Figures
     ensures { result ≡ on_rate amount s }
 {
-    let mut t = s;
-    t.rate = amount as i64;
-    t
+    Figures {
+        rate: i64::from(amount),
+        ..s
+    }
 }
 
 // CALL: called rises by the size of the call.
@@ -106,10 +97,11 @@ pub fn call(s: Figures) -> Figures
     requires { Room s }
     ensures { result ≡ on_call s }
 {
-    let mut t = s;
     let size = size_of_call(s.position, s.rate) as i64;
-    t.called = s.called + size;
-    t
+    Figures {
+        called: s.called + size,
+        ..s
+    }
 }
 
 // NET: settled rises by the position (signed), which becomes 0.
@@ -117,10 +109,11 @@ pub fn net(s: Figures) -> Figures
     requires { Room s }
     ensures { result ≡ on_net s }
 {
-    let mut t = s;
-    t.settled = s.settled + s.position;
-    t.position = 0;
-    t
+    Figures {
+        position: 0,
+        settled: s.settled + s.position,
+        ..s
+    }
 }
 
 // What a posting does to the figures of an account k that it touches.
@@ -128,8 +121,7 @@ pub fn change(p: Posting, k: u8, s: Figures) -> Figures
     requires { Room s }
     ensures { result ≡ change p.kind p k s }
 {
-    let kind = p.kind;
-    match kind {
+    match p.kind {
         posting::TRADE => trade(p, k, s),
         posting::RATE => rate(p.amount, s),
         posting::CALL => call(s),
@@ -143,24 +135,18 @@ pub fn change_b(p: Posting, s: Figures) -> Figures
     requires { Room s }
     ensures { result ≡ cond (eqb p.a p.b) s (change p.kind p p.b s) }
 {
-    if p.a == p.b {
-        return s;
-    }
-    change(p, p.b, s)
+    if p.a == p.b { s } else { change(p, p.b, s) }
 }
 
 // Every account is netted.
-pub fn net_all(sheet: Sheet) -> Sheet
+pub fn net_all(mut sheet: Sheet) -> Sheet
     requires { Roomy (figures_on sheet) }
     ensures { result ≡ sheet_of (λ k. on_net (figures_on sheet k)) }
 {
-    let mut t = sheet;
-    for a in 0..ACCOUNTS {
-        let s = t.accounts[a];
-        let u = net(s);
-        t.accounts[a] = u;
+    for s in sheet.accounts.iter_mut() {
+        *s = net(*s);
     }
-    t
+    sheet
 }
 
 // The sheet of a record: its postings posted line by line on the opening figures. A posting touches its accounts a and b, or all of them.
@@ -191,18 +177,11 @@ pub fn posted(table: Table, delivered: Record, opening: Sheet) -> Sheet
 }
 
 // The four numbers of an account go to a place of the slice.
-fn put(s: Figures, at: usize, out: &mut [i64])
+pub fn put(s: Figures, at: usize, out: &mut [i64])
     requires { at + 4 ≤ length out.old }
     ensures { out.new ≡ take at out.old ++ four s ++ drop (at + 4) out.old }
 {
-    let position = s.position;
-    let rate = s.rate;
-    let called = s.called;
-    let settled = s.settled;
-    out[at] = position;
-    out[at + 1] = rate;
-    out[at + 2] = called;
-    out[at + 3] = settled;
+    out[at..at + 4].copy_from_slice(&[s.position, s.rate, s.called, s.settled]);
 }
 
 // The first 64 numbers of the slice become the sheet's.
@@ -210,9 +189,8 @@ pub fn fill(sheet: Sheet, out: &mut [i64])
     requires { 64 ≤ length out.old }
     ensures { out.new ≡ numbers (figures_on sheet) ++ drop 64 out.old }
 {
-    for k in 0..ACCOUNTS {
-        let s = sheet.accounts[k];
-        put(s, 4 * k, out);
+    for (k, s) in sheet.accounts.iter().enumerate() {
+        put(*s, 4 * k, out);
     }
 }
 
@@ -221,8 +199,7 @@ pub fn books(table: Table, delivered: Record, opening: Sheet, out: &mut [i64])
     requires { Postable table delivered × Opening (figures_on opening) × (64 ≤ length out.old) }
     ensures { out.new ≡ numbers (books (figures_on opening) table (numbers_of delivered)) ++ drop 64 out.old }
 {
-    let sheet = posted(table, delivered, opening);
-    fill(sheet, out);
+    fill(posted(table, delivered, opening), out);
 }
 
 // The books of the first n sites: the part of the slice from 64s is lent on for site s.

@@ -6,7 +6,7 @@ ghost use Rattle.by_bytes.specs.Bytes.{byte_at, amount_at, row_at, table_of, rec
 
 use books::{Records, SITES};
 use posting::{Posting, Record, Table};
-use sets::{POSTINGS, wide, wide32};
+use sets::POSTINGS;
 
 // How many bytes a row has, and how many the record of a site: its count, then a place for each number.
 pub const ROW: usize = 8;
@@ -20,17 +20,14 @@ const COUNT: usize = 2;
 fn byte_at(bytes: &[u8], i: usize) -> u8
     ensures { result ≡ byte_at bytes.now i }
 {
-    if bytes.len() <= i {
-        return 0;
-    }
-    bytes[i]
+    bytes.get(i).copied().unwrap_or(0)
 }
 
 // Four bytes as a number, the highest first.
 fn number(x: u8, y: u8, z: u8, w: u8) -> u32
     ensures { result ≡ ((x * 256 + y) * 256 + z) * 256 + w }
 {
-    ((wide32(x) * 256 + wide32(y)) * 256 + wide32(z)) * 256 + wide32(w)
+    u32::from_be_bytes([x, y, z, w])
 }
 
 // The amount in four bytes from a place on.
@@ -51,17 +48,12 @@ fn row_at(bytes: &[u8], m: usize) -> Posting
     ensures { result ≡ row_at bytes.now m }
 {
     let at = ROW * m;
-    let owner = byte_at(bytes, at);
-    let kind = byte_at(bytes, at + 1);
-    let a = byte_at(bytes, at + 2);
-    let b = byte_at(bytes, at + 3);
-    let amount = amount_at(bytes, at + 4);
     Posting {
-        owner,
-        kind,
-        a,
-        b,
-        amount,
+        owner: byte_at(bytes, at),
+        kind: byte_at(bytes, at + 1),
+        a: byte_at(bytes, at + 2),
+        b: byte_at(bytes, at + 3),
+        amount: amount_at(bytes, at + 4),
     }
 }
 
@@ -69,22 +61,14 @@ fn row_at(bytes: &[u8], m: usize) -> Posting
 pub fn table_of(bytes: &[u8]) -> Table
     ensures { result ≡ table_of bytes.now }
 {
-    let zeros = Posting {
-        owner: 0,
-        kind: 0,
-        a: 0,
-        b: 0,
-        amount: 0,
-    };
-    let mut table = Table {
-        count: bytes.len() / ROW,
-        rows: [zeros; POSTINGS],
-    };
-    for m in 0..POSTINGS {
-        let p = row_at(bytes, m);
-        table.rows[m] = p;
+    let mut rows = [Posting::default(); POSTINGS];
+    for (m, p) in rows.iter_mut().enumerate() {
+        *p = row_at(bytes, m);
     }
-    table
+    Table {
+        count: bytes.len() / ROW,
+        rows,
+    }
 }
 
 // The record with a count, and its numbers from a place on.
@@ -92,15 +76,11 @@ fn record_at(bytes: &[u8], from: usize, count: usize) -> Record
     requires { from ≤ 4096 }
     ensures { result ≡ record_at bytes.now from count }
 {
-    let mut delivered = Record {
-        count,
-        numbers: [0; POSTINGS],
-    };
-    for i in 0..POSTINGS {
-        let m = byte_at(bytes, i + from);
-        delivered.numbers[i] = m;
+    let mut numbers = [0; POSTINGS];
+    for (i, m) in numbers.iter_mut().enumerate() {
+        *m = byte_at(bytes, i + from);
     }
-    delivered
+    Record { count, numbers }
 }
 
 // The record with these numbers.
@@ -115,9 +95,7 @@ fn count_at(bytes: &[u8], i: usize) -> usize
     requires { i ≤ 7 * record_size }
     ensures { result ≡ count_at bytes.now i }
 {
-    let x = byte_at(bytes, i);
-    let y = byte_at(bytes, i + 1);
-    wide(x) * 256 + wide(y)
+    usize::from(byte_at(bytes, i)) * 256 + usize::from(byte_at(bytes, i + 1))
 }
 
 // The record of site s: its count, then a place for each number.
@@ -134,18 +112,11 @@ fn site_record(bytes: &[u8], s: usize) -> Record
 pub fn records_of(bytes: &[u8]) -> Records
     ensures { result ≡ records_of bytes.now }
 {
-    let empty = Record {
-        count: 0,
-        numbers: [0; POSTINGS],
-    };
-    let mut records = Records {
-        sites: [empty; SITES],
-    };
-    for s in 0..SITES {
-        let delivered = site_record(bytes, s);
-        records.sites[s] = delivered;
+    let mut sites = [Record::empty(); SITES];
+    for (s, delivered) in sites.iter_mut().enumerate() {
+        *delivered = site_record(bytes, s);
     }
-    records
+    Records { sites }
 }
 
 // Whether the fields of every row are within the rule.
@@ -153,14 +124,7 @@ fn rows_ok(bytes: &[u8]) -> bool
     requires { length bytes.now ≤ 8 * capacity }
     ensures { result ≡ rows_ok bytes.now }
 {
-    let count = bytes.len() / ROW;
-    for m in 0..count {
-        let p = row_at(bytes, m);
-        if p.fields_ok() == false {
-            return false;
-        }
-    }
-    true
+    (0..bytes.len() / ROW).all(|m| row_at(bytes, m).fields_ok())
 }
 
 // Whether so many bytes are whole parts of a size, and of those at most a limit.
@@ -168,37 +132,24 @@ pub fn whole(length: usize, size: usize, limit: usize) -> bool
     requires { 0 < size }
     ensures { result ≡ whole length size limit }
 {
-    if length % size == 0 {
-        return length / size <= limit;
-    }
-    false
+    length % size == 0 && length / size <= limit
 }
 
 // Whether these are the rows of a table, all within the field rule.
 pub fn table_ok(bytes: &[u8]) -> bool
     ensures { result ≡ table_ok bytes.now }
 {
-    if whole(bytes.len(), ROW, POSTINGS) {
-        return rows_ok(bytes);
-    }
-    false
+    whole(bytes.len(), ROW, POSTINGS) && rows_ok(bytes)
 }
 
 // Whether the record is within the capacity and all its numbers are below n.
 pub fn record_ok(delivered: Record, n: usize) -> bool
     ensures { result ≡ record_ok delivered n }
 {
-    let count = delivered.count;
-    if POSTINGS < count {
-        return false;
-    }
-    for i in 0..count {
-        let m = delivered.numbers[i] as usize;
-        if n <= m {
-            return false;
-        }
-    }
-    true
+    delivered.count <= POSTINGS
+        && delivered.numbers[..delivered.count]
+            .iter()
+            .all(|m| usize::from(*m) < n)
 }
 
 // Whether each site's record is within the capacity, and all its numbers are below n.
@@ -206,22 +157,12 @@ fn each_ok(bytes: &[u8], n: usize) -> bool
     requires { site_count bytes.now ≤ 7 }
     ensures { result ≡ each_ok bytes.now n }
 {
-    let count = bytes.len() / RECORD;
-    for s in 0..count {
-        let delivered = site_record(bytes, s);
-        if record_ok(delivered, n) == false {
-            return false;
-        }
-    }
-    true
+    (0..bytes.len() / RECORD).all(|s| record_ok(site_record(bytes, s), n))
 }
 
 // Whether these are records of sites, each within the capacity and with all its numbers below n.
 pub fn sites_ok(bytes: &[u8], n: usize) -> bool
     ensures { result ≡ sites_ok bytes.now n }
 {
-    if whole(bytes.len(), RECORD, SITES) {
-        return each_ok(bytes, n);
-    }
-    false
+    whole(bytes.len(), RECORD, SITES) && each_ok(bytes, n)
 }

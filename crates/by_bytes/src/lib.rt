@@ -34,18 +34,24 @@ const RATE_LIMIT: u64 = posting::RATE_LIMIT as u64;
 
 const SUM_LIMIT: u64 = 4_000_000_000_000_000_000;
 
-// Whether the fields are within the rule of refusal 9.
-pub fn fields_ok(kind: u8, a: u8, b: u8, amount: u32) -> bool
-    ensures { result ≡ fields_ok (posting_of kind a b amount) }
+// A posting from its fields; who owns it plays no part here.
+fn posting_of(kind: u8, a: u8, b: u8, amount: u32) -> Posting
+    ensures { result ≡ posting_of kind a b amount }
 {
-    let p = Posting {
+    Posting {
         owner: 0,
         kind,
         a,
         b,
         amount,
-    };
-    p.fields_ok()
+    }
+}
+
+// Whether the fields are within the rule of refusal 9.
+pub fn fields_ok(kind: u8, a: u8, b: u8, amount: u32) -> bool
+    ensures { result ≡ fields_ok (posting_of kind a b amount) }
+{
+    posting_of(kind, a, b, amount).fields_ok()
 }
 
 // Whether the matrix is symmetric.
@@ -76,20 +82,8 @@ pub fn conflicting(
 ) -> bool
     ensures { result ≡ conflicting matrix m (posting_of i a b 0) x (posting_of j c d 0) }
 {
-    let p = Posting {
-        owner: 0,
-        kind: i,
-        a,
-        b,
-        amount: 0,
-    };
-    let q = Posting {
-        owner: 0,
-        kind: j,
-        a: c,
-        b: d,
-        amount: 0,
-    };
+    let p = posting_of(i, a, b, 0);
+    let q = posting_of(j, c, d, 0);
     posting::conflicting(matrix, m, p, x, q)
 }
 
@@ -100,10 +94,7 @@ fn product_fits(position: i64, rate: i64) -> bool
 {
     let p = books::size(position);
     let q = books::size(rate);
-    if u64::leading_zeros(p) + u64::leading_zeros(q) < 64 {
-        return false;
-    }
-    p * q <= LARGEST
+    64 <= p.leading_zeros() + q.leading_zeros() && p * q <= LARGEST
 }
 
 // What a CALL adds to called; NO_SIZE if position × rate is no i64.
@@ -111,25 +102,20 @@ pub fn size_of_call(position: i64, rate: i64) -> u64
     ensures { result ≡ size_answer position rate }
 {
     if product_fits(position, rate) {
-        return books::size_of_call(position, rate);
+        books::size_of_call(position, rate)
+    } else {
+        NO_SIZE
     }
-    NO_SIZE
 }
 
 // Whether the figures have room for one posting more.
 fn has_room(s: Figures) -> bool
     ensures { result ≡ roomy s }
 {
-    if POSITION_LIMIT < books::size(s.position) {
-        return false;
-    }
-    if RATE_LIMIT < books::size(s.rate) {
-        return false;
-    }
-    if SUM_LIMIT < books::size(s.called) {
-        return false;
-    }
-    books::size(s.settled) <= SUM_LIMIT
+    books::size(s.position) <= POSITION_LIMIT
+        && books::size(s.rate) <= RATE_LIMIT
+        && books::size(s.called) <= SUM_LIMIT
+        && books::size(s.settled) <= SUM_LIMIT
 }
 
 // What a posting does to the figures of an account: nothing if it does not touch it.
@@ -138,24 +124,10 @@ fn effect_on(p: Posting, account: u8, s: Figures) -> Figures
     ensures { result ≡ effect p account s }
 {
     if p.touches(account) {
-        return books::change(p, account, s);
+        books::change(p, account, s)
+    } else {
+        s
     }
-    s
-}
-
-// The first four numbers of the slice become those of an account.
-fn put(s: Figures, out: &mut [i64])
-    requires { 4 ≤ length out.old }
-    ensures { out.new ≡ four s ++ drop 4 out.old }
-{
-    let position = s.position;
-    let rate = s.rate;
-    let called = s.called;
-    let settled = s.settled;
-    out[0] = position;
-    out[1] = rate;
-    out[2] = called;
-    out[3] = settled;
 }
 
 // A posting has its effect on the figures in the first four numbers of the slice, if they have room.
@@ -176,7 +148,7 @@ fn post_on(p: Posting, account: u8, figures: &mut [i64]) -> u8
     };
     if has_room(s) {
         let t = effect_on(p, account, s);
-        put(t, figures);
+        books::put(t, 0, figures);
         return DONE;
     }
     REFUSED
@@ -191,13 +163,7 @@ pub fn effect(kind: u8, a: u8, b: u8, amount: u32, account: u8, figures: &mut [i
     if figures.len() < 4 {
         return REFUSED;
     }
-    let p = Posting {
-        owner: 0,
-        kind,
-        a,
-        b,
-        amount,
-    };
+    let p = posting_of(kind, a, b, amount);
     if p.fields_ok() {
         return post_on(p, account, figures);
     }
@@ -209,10 +175,7 @@ fn put_words(s: Set, out: &mut [u64])
     requires { words ≤ length out.old }
     ensures { out.new ≡ take words s.words ++ drop words out.old }
 {
-    for i in 0..WORDS {
-        let w = s.words[i];
-        out[i] = w;
-    }
+    out[..WORDS].copy_from_slice(&s.words);
 }
 
 // C(m) of a table, given as rows of bytes (bytes.rt), fills the first words of the slice.

@@ -1,8 +1,10 @@
 -- Laws of tests below n: what all and any say of single numbers, counts of equal tests, and the first number apart.
 -- Rests on Below and Truth. Assumes nothing.
-use Prim.Native.Nat.{ℕ, zero, suc, ◌+◌, ◌<◌}
+use Prim.Native.Nat.{ℕ, zero, suc, ◌+◌, ◌<◌, ◌≤◌}
 use mathlib.Core.Path.{◌≡◌, refl, sym, ap, ap₂, ◌∙◌}
 use mathlib.Core.Logic.{inl, inr}
+use mathlib.Core.List.{List, [], ◌∷◌}
+use lib.ListN.{length, get_or, take}
 use mathlib.Core.Bool.{Bool, true, false, ◌&&◌, and_assoc, and-true}
 use native.Mathlib.Omega.{arith}
 use native.Mathlib.Numerals.{add-one}
@@ -63,6 +65,14 @@ all_range_from p (suc n) a =
 
 pub all_range : (p : ℕ → Bool) (n : ℕ) → list_all p (range_with_len 0 n) ≡ all_below p n
 all_range p n = all_range_from p n 0 ∙ all_ext (λ i. p (0 + i)) p n (λ i l. ap p (omega arith))
+
+-- as `all` over the first n of a list tests them
+pub all_taken : (p : ℕ → Bool) (n : ℕ) (l : List ℕ) → n ≤ length l → list_all p (take n l) ≡ all_below (λ i. p (get_or l i 0)) n
+unfolding all_below
+all_taken p zero l h = refl
+all_taken p (suc n) [] h = absurd (omega arith)
+all_taken p (suc n) (x ∷ l) h =
+    ap (λ (b : Bool). p x && b) (all_taken p n l (omega arith)) ∙ sym (all_shift (λ i. p (get_or (x ∷ l) i 0)) n)
 
 -- ---- any
 

@@ -3,23 +3,22 @@
 use Prim.Native.Nat.{ℕ, zero, suc, ◌+◌, ◌^◌, ◌<◌, ◌≤◌, min}
 use mathlib.Core.Path.{◌≡◌, refl, sym, ap, ◌∙◌}
 use mathlib.Core.Logic.{inl, inr}
-use mathlib.Core.Bool.{Bool, true, false, cond, ◌||◌, or-false}
+use mathlib.Core.Bool.{Bool, true, false, cond, or-false}
 use mathlib.Core.List.{List, [], ◌∷◌, ◌++◌, append-nil}
 use native.Mathlib.Omega.{arith}
-use lib.Dec.{eqb, ltb, leb}
+use lib.Dec.{leb}
 use lib.ListN.{length, take, length-append, length-take}
 use lib.Seq.{take_all, take-nil, take-append-le}
 use lib.Bits.{bit_or, or_lt}
 use lib.Count.{ones}
-use lib.Pow.{pow_pos, pow-lt}
+use lib.Pow.{pow_pos}
 use borrow.Author.Tests.{leb-true, leb-false, ne_eqb, eq-eqb}
 use Rattle.sets.proofs.Truth.{test}
 use Rattle.sets.specs.Below.{one, count}
 use Rattle.sets.specs.Masks.{has_bit}
 use Rattle.sets.proofs.MaskLaws.{has_bit_above, has_bit_set, ones_count}
-use Rattle.site.specs.Sites.{sites}
 use Rattle.site.specs.Sends.{Send}
-use Rattle.masks.specs.SiteMasks.{only_site, with_site, with_site_if, next_site, first_sites}
+use Rattle.masks.specs.SiteMasks.{with_site, with_site_if, next_site, first_sites}
 use Rattle.site.specs.ByMask.{to_mask}
 use Rattle.site.proofs.ByMaskLaws.{only_site_lem, mask_ext}
 

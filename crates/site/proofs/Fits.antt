@@ -1,13 +1,12 @@
 -- What a step sends goes to sites only: its mask is below 2 ^ 7.
 -- Rests on ByMask. Assumes nothing.
-use Prim.Native.Nat.{ℕ, ◌-◌, ◌^◌, ◌<◌, ◌≤◌}
-use mathlib.Core.Path.{◌≡◌}
+use Prim.Native.Nat.{ℕ, ◌-◌, ◌^◌, ◌<◌}
 use mathlib.Core.Logic.{inl, inr}
 use mathlib.Core.Bool.{Bool, true, false, cond}
 use native.Mathlib.Omega.{arith}
 use lib.Dec.{eqb, ltb}
 use lib.Bits.{bit_and, and_le_l}
-use lib.Pow.{pow-lt, pow_pos}
+use lib.Pow.{pow-lt}
 use borrow.Author.Tests.{ltb-true}
 use Rattle.sets.specs.declared.Set.{Set}
 use Rattle.sets.proofs.Truth.{test}

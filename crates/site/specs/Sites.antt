@@ -1,6 +1,6 @@
 -- A site's parts: the blank ones, those that stand where there is none, and a site with some of its parts changed.
 -- Rests on the declared types of this crate, on posting and sets.
-use Rattle.std.specs.Prelude.{ℕ, ◌+◌, ◌^◌, Bool, cond, List, [], get_or, set, replicate}
+use Rattle.std.specs.Prelude.{ℕ, ◌^◌, Bool, cond, [], get_or, set, replicate}
 use Rattle.std.specs.Int.Bits.{bit_or}
 use Rattle.sets.specs.declared.Set.{Set}
 use Rattle.sets.specs.Sets.{capacity, empty_set, of_words}

@@ -14,7 +14,7 @@ use Rattle.site.specs.declared.Setup.{Setup}
 use Rattle.site.specs.declared.Site.{Site}
 use Rattle.site.specs.declared.Tally.{Tally}
 use Rattle.site.specs.Sites.{heard_for, good_for, plus, plus_if, site_seen, site_heard, site_stepped, site_finished, site_got, site_place, site_delivered}
-use Rattle.site.specs.Sends.{Send, first, second, third, deliver, entry, to_all, to_others, Step}
+use Rattle.site.specs.Sends.{first, second, third, deliver, entry, to_all, to_others, Step}
 
 -- ---- words of document 01
 

@@ -14,7 +14,7 @@ use sets::{POSTINGS, Set};
 pub const SITES: usize = masks::SITES as usize;
 
 // What a start takes: n sites, f crashes allowed, the yes/no matrix over kinds.
-#[derive(Clone, Copy)]
+#[derive(Clone, Copy, PartialEq, Eq)]
 pub struct Setup {
     pub n: u8,
     pub f: u8,
@@ -22,7 +22,7 @@ pub struct Setup {
 }
 
 // What belongs to one site. Masks of senders stand by posting.
-#[derive(Clone, Copy)]
+#[derive(Clone, Copy, PartialEq, Eq)]
 pub struct Site {
     pub seen: Set,
     pub held: Set,
@@ -40,7 +40,7 @@ pub struct Site {
 }
 
 // The third round of one posting, at its owner: THIRD heard from these senders, those whose set had the posting, the union of the sets.
-#[derive(Clone, Copy)]
+#[derive(Clone, Copy, PartialEq, Eq)]
 pub struct Tally {
     pub heard: u8,
     pub has: u8,
@@ -81,10 +81,7 @@ pub const ENTRY: u8 = 4;
 pub fn alone(seen: Set, conflicts: Set, m: usize) -> bool
     ensures { result ≡ alone seen conflicts m }
 {
-    let both = seen.meet(conflicts);
-    let none = Set::empty();
-    let one = none.with(m);
-    both.subset(one)
+    seen.meet(conflicts).subset(Set::empty().with(m))
 }
 
 impl Setup {
@@ -92,31 +89,20 @@ impl Setup {
     pub fn majority(self, mask: u8) -> bool
         ensures { result ≡ majority self mask }
     {
-        let n = self.n as u32;
-        let count = u8::count_ones(mask);
-        n < 2 * count
+        u32::from(self.n) < 2 * mask.count_ones()
     }
 
     // Whether the sites of the mask are n - f or more.
     pub fn reached(self, mask: u8) -> bool
         ensures { result ≡ reached self mask }
     {
-        let n = self.n as u32;
-        let f = self.f as u32;
-        let count = u8::count_ones(mask);
-        n <= f + count
+        u32::from(self.n) <= u32::from(self.f) + mask.count_ones()
     }
 
     // Whether a site is already heard, or n - f are, or the posting is done with. The last, the cheapest to tell, is asked first.
     pub fn late(self, heard: u8, from: u8, done: bool) -> bool
         ensures { result ≡ late self heard from done }
     {
-        if done {
-            return true;
-        }
-        if has_site(heard, from) {
-            return true;
-        }
-        self.reached(heard)
+        done || has_site(heard, from) || self.reached(heard)
     }
 }

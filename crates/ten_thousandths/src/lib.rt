@@ -6,8 +6,6 @@ ghost use Rattle.std.specs.Prelude.{◌≡◌, ◌^◌, ◌<◌};
 ghost use Rattle.ten_thousandths.specs.Rounding.{ten_thousandths};
 ghost use Rattle.ten_thousandths.specs.Parts.{lessened};
 
-use std::num::wrapping_sub_u64;
-
 // How many parts a whole one has.
 const WHOLE: u64 = 10_000;
 
@@ -30,7 +28,7 @@ impl Part {
         ensures { result ≡ lessened self k }
     {
         let piece = WHOLE << k;
-        let left = wrapping_sub_u64(self.rest, piece);
+        let left = self.rest.wrapping_sub(piece);
         if self.rest < left {
             return self;
         }
@@ -50,11 +48,12 @@ pub fn rounded_up(parts: u64) -> u64
         rest: parts,
         taken: 0,
     };
-    for i in 0..POWERS {
-        part = part.less(POWERS - 1 - i);
+    for k in (0..POWERS).rev() {
+        part = part.less(k);
     }
     if part.rest == 0 {
-        return part.taken;
+        part.taken
+    } else {
+        part.taken + 1
     }
-    part.taken + 1
 }

@@ -9,4 +9,4 @@ use Rattle.books.proofs.books.Goals as goal
 pub returns : goal.returns
 returns c =
     c.fill.ensures
-    ∙ rw (c.posted-sheet.ensures, sheet_numbers (books (figures_on c.args.opening) c.args.table (numbers_of c.args.delivered)))
+    ∙ rw (c.posted.ensures, sheet_numbers (books (figures_on c.args.opening) c.args.table (numbers_of c.args.delivered)))

@@ -1,11 +1,7 @@
 -- `books::change` meets its contract: each arm has its kind.
 -- Assumes nothing.
-use mathlib.Core.Path.{sym}
-use Prim.Native.Nat.{◌≤◌}
-use native.Mathlib.Omega.{arith}
-use Rattle.posting.specs.Kinds.{kinds}
+use Rattle.std.proofs.Common.{rules, tests}
 use Rattle.books.specs.Effect.{change}
-use Rattle.books.proofs.Effects.{no_kind}
 use Rattle.books.proofs.change.Goals as goal
 
 pub returns-in-0 : goal.returns-in-0
@@ -25,6 +21,5 @@ unfolding change
 returns-in-3 c = rw c.in-3.is c.net.ensures
 
 pub returns-in_default : goal.returns-in_default
-returns-in_default c =
-    let h : kinds ≤ c.args.p.kind = omega arith in
-    sym (no_kind c.args.p.kind h c.args.p c.args.k c.args.s)
+unfolding change
+returns-in_default c = search (tests, rules)

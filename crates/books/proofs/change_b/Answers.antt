@@ -6,6 +6,5 @@ use Rattle.books.proofs.change_b.Goals as goal
 pub returns-then-p : goal.returns-then-p
 returns-then-p c = rw (eq-eqb c.args.p.a c.args.p.b c.if-p.true)
 
-pub returns : goal.returns
-returns c =
-    rw (ne_eqb c.args.p.a c.args.p.b c.if-p.false) c.change.ensures
+pub returns-else-p : goal.returns-else-p
+returns-else-p c = rw (ne_eqb c.args.p.a c.args.p.b c.if-p.false) c.change.ensures

@@ -1,11 +1,10 @@
--- `books::net_all` meets its contract: after a accounts these are netted.
+-- `books::net_all` meets its contract: after so many accounts these are netted.
 -- Assumes nothing.
 use mathlib.Core.Path.{◌≡◌}
-use Prim.Native.Nat.{◌-◌, ◌≤◌}
-use Rattle.posting.specs.Kinds.{accounts}
 use Rattle.books.specs.Books.{figures_on, sheet_of}
+use Rattle.books.specs.declared.Sheet.{Sheet}
 use Rattle.books.proofs.Sheets.{netted}
 use Rattle.books.proofs.net_all.Given as goal
 
-abbrev pub invariant-loop-a : goal.invariant-loop-a
-invariant-loop-a l = (l.a ≤ accounts) × (l.t ≡ sheet_of (netted l.a (figures_on l.initial.t)))
+abbrev pub invariant-loop-s : goal.invariant-loop-s
+invariant-loop-s l = ◌≡◌ {A = Sheet} (record { accounts = l.s-items }) (sheet_of (netted l.s-index (figures_on l.fn.sheet)))

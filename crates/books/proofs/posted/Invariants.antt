@@ -1,7 +1,7 @@
 -- `books::posted` meets its contract: after i lines the sheet is that of the first i posting numbers.
 -- Assumes nothing.
 use mathlib.Core.Path.{◌≡◌}
-use Prim.Native.Nat.{◌≤◌, ◌-◌}
+use Prim.Native.Nat.{◌≤◌}
 use lib.ListN.{take}
 use Rattle.books.specs.Books.{books, figures_on, sheet_of}
 use Rattle.books.proofs.posted.Given as goal

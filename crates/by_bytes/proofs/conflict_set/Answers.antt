@@ -14,7 +14,7 @@ use Rattle.posting.proofs.ConflictLaws.{conflict_set_shape}
 use Rattle.posting.specs.declared.Table.{Table}
 use Rattle.posting.specs.Conflicts.{conflict_set}
 use Rattle.by_bytes.specs.Answers.{answer, conflict_set_ok, conflict_set_out}
-use Rattle.by_bytes.specs.Bytes.{row_count, table_of, whole}
+use Rattle.by_bytes.specs.Bytes.{row_count, table_of}
 use Rattle.by_bytes.proofs.Outcomes.{is_refused, is_done}
 use Rattle.by_bytes.proofs.conflict_set.Goals as goal
 

@@ -3,7 +3,7 @@
 use Prim.Native.Nat.{ℕ, ◌≤◌}
 use mathlib.Core.List.{List}
 use mathlib.Core.Bool.{true, false}
-use mathlib.Core.Path.{◌≡◌, sym, ◌∙◌}
+use mathlib.Core.Path.{◌≡◌, sym, ap, ◌∙◌}
 use lib.IntN.{ℤ}
 use lib.ListN.{length}
 use borrow.Author.Tests.{le-leb, lt-leb}
@@ -32,11 +32,11 @@ pub returns-then-fields_ok : goal.returns-then-fields_ok
 unfolding effect_out posted_on
 returns-then-fields_ok c =
     let args = c.args in
-    let l = args.figures.now in record { value = rw (passed (posting_of args.kind args.a args.b args.amount) l c.if-figures-lt4.false (sym c.fields_ok.ensures ∙ c.if-fields_ok.true)) c.post_on.ensures.value; figures_after = rw (passed (posting_of args.kind args.a args.b args.amount) l c.if-figures-lt4.false (sym c.fields_ok.ensures ∙ c.if-fields_ok.true)) c.post_on.ensures.figures_after }
+    let l = args.figures.now in record { value = rw (passed (posting_of args.kind args.a args.b args.amount) l c.if-figures-lt4.false (sym (c.fields_ok.ensures ∙ ap fields_ok c.posting_of-p.ensures) ∙ c.if-fields_ok.true)) c.post_on.ensures.value; figures_after = rw (passed (posting_of args.kind args.a args.b args.amount) l c.if-figures-lt4.false (sym (c.fields_ok.ensures ∙ ap fields_ok c.posting_of-p.ensures) ∙ c.if-fields_ok.true)) (rw c.posting_of-p.ensures at c.post_on.ensures.figures_after) }
 
 pub returns : goal.returns
 unfolding effect_ok
 returns c =
     let args = c.args in
     let l = args.figures.now in let shown = no (posting_of args.kind args.a args.b args.amount) args.account l
-    (rw (le-leb 4 (length l) c.if-figures-lt4.false, sym c.fields_ok.ensures ∙ c.if-fields_ok.false)) in record { value = shown.0; figures_after = shown.1 }
+    (rw (le-leb 4 (length l) c.if-figures-lt4.false, sym (c.fields_ok.ensures ∙ ap fields_ok c.posting_of-p.ensures) ∙ c.if-fields_ok.false)) in record { value = shown.0; figures_after = shown.1 }

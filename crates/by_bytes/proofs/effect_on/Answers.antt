@@ -8,6 +8,6 @@ pub returns-then-touches : goal.returns-then-touches
 unfolding effect
 returns-then-touches c = rw (sym c.touches.ensures ∙ c.if-touches.true) c.change.ensures
 
-pub returns : goal.returns
+pub returns-else-touches : goal.returns-else-touches
 unfolding effect
-returns c = rw (sym c.touches.ensures ∙ c.if-touches.false)
+returns-else-touches c = rw (sym c.touches.ensures ∙ c.if-touches.false)

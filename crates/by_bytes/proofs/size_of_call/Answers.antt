@@ -24,6 +24,6 @@ returns-then-product_fits c =
     rw (sym (tested (goal.at.returns-then-product_fits c).After-product_fits) ∙ c.if-product_fits.true)
     (c.size_of_call.ensures ∙ ap₂ size_of_call (to_z-of_z c.ranges.position) (to_z-of_z c.ranges.rate))
 
-pub returns : goal.returns
+pub returns-else-product_fits : goal.returns-else-product_fits
 unfolding size_answer
-returns c = rw (sym (tested (goal.at.returns c).After-product_fits) ∙ c.if-product_fits.false)
+returns-else-product_fits c = rw (sym (tested (goal.at.returns-else-product_fits c).After-product_fits) ∙ c.if-product_fits.false)

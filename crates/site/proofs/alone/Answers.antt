@@ -5,4 +5,4 @@ use Rattle.site.proofs.alone.Goals as goal
 
 pub returns : goal.returns
 unfolding alone
-returns c = rw (c.subset.ensures, c.with-one.ensures, c.empty-none.ensures, c.meet-both.ensures)
+returns c = rw (c.subset.ensures, c.with.ensures, c.empty.ensures, c.meet.ensures)

@@ -5,4 +5,4 @@ use Rattle.by_bytes.proofs.bytes.count_at.Goals as goal
 
 pub returns : goal.returns
 unfolding count_at
-returns c = rw (c.wide-2.ensures, c.wide.ensures, c.byte_at-y.ensures, c.byte_at-x.ensures)
+returns c = rw (c.from.ensures, c.from-2.ensures, c.byte_at.ensures, c.byte_at-2.ensures)

@@ -1,43 +1,27 @@
--- `record_ok` meets its contract. The loop's invariant: the first i numbers pass.
+-- `record_ok` meets its contract.
 -- Assumes nothing.
-use Prim.Native.Nat.{◌-◌}
-use mathlib.Core.Path.{◌≡◌, sym, ap, ◌∙◌}
-use mathlib.Core.Bool.{true}
-use native.Mathlib.Omega.{arith}
-use borrow.Author.Rules.{rules}
-use borrow.Author.Tests.{lt-ltb, le-ltb, le-leb, lt-leb}
-use Rattle.sets.specs.Below.{all_below}
-use Rattle.sets.proofs.BelowLaws.{all_none, all_more, all_fails}
+use Rattle.std.proofs.Common.{rules, tests, arith}
+use mathlib.Core.Path.{◌≡◌, ◌∙◌}
+use Prim.Native.Nat.{ℕ}
+use lib.Dec.{ltb}
+use lib.ListN.{length, take}
+use borrow.Author.Tests.{le-leb}
+use Rattle.std.proofs.lemmas.Iterator.{YieldsList-from_slice}
+use Rattle.std.proofs.lemmas.Iterator.Search.{all_from_yields_List}
 use Rattle.sets.specs.Sets.{capacity}
+use Rattle.sets.proofs.BelowLaws.{all_taken}
 use Rattle.by_bytes.specs.Bytes.{record_ok}
-use Rattle.by_bytes.proofs.bytes.record_ok.Invariants.{passes}
 use Rattle.by_bytes.proofs.bytes.record_ok.Goals as goal
 
-pub returns-then-count-gt-POSTINGS : goal.returns-then-count-gt-POSTINGS
+pub returns-then-delivered-le-POSTINGS : goal.returns-then-delivered-le-POSTINGS
 unfolding record_ok
-returns-then-count-gt-POSTINGS c = rw (lt-leb c.args.delivered.count capacity (search rules))
+returns-then-delivered-le-POSTINGS c =
+    let r = c.args.delivered in
+    let long : length r.numbers ≡ capacity = search rules in
+    let test = λ (m : ℕ). ltb m c.args.n in
+    rw (le-leb r.count capacity (search rules))
+    (all_from_yields_List test c.all.new.self _ _ c.all.ensures.ran (YieldsList-from_slice (take r.count r.numbers) (cc)) (λ x b q k. search (rules, tests)) ∙ all_taken test r.count r.numbers (omega arith))
 
-pub loop-i-init : goal.loop-i-init
-loop-i-init c = (search rules, all_none (passes c.args.delivered c.args.n))
-
-pub returns-then-n-m : goal.returns-then-n-m
+pub returns-else-delivered-le-POSTINGS : goal.returns-else-delivered-le-POSTINGS
 unfolding record_ok
-returns-then-n-m c =
-    let at = c.loop-i in
-    let args = c.args in
-    rw (le-leb args.delivered.count capacity (search rules))
-    (sym (all_fails (passes args.delivered args.n) args.delivered.count at.i (search rules) (le-ltb _ _ c.if-n-m.true)))
-
-pub loop-i-preserved : goal.loop-i-preserved
-loop-i-preserved c =
-    let at = c.loop-i in
-    let args = c.args in
-    (search rules, all_more (passes args.delivered args.n) at.i at.invariant.1 (lt-ltb _ _ c.if-n-m.false))
-
-pub returns : goal.returns
-unfolding record_ok
-returns c =
-    let at = c.loop-i in
-    let args = c.args in
-    let end : at.i ≡ args.delivered.count = omega arith in
-    rw (le-leb args.delivered.count capacity (search rules)) (sym (ap (all_below (passes args.delivered args.n)) (sym end) ∙ at.invariant.1))
+returns-else-delivered-le-POSTINGS c = search (tests, rules)

@@ -5,4 +5,4 @@ use Rattle.by_bytes.proofs.bytes.row_at.Goals as goal
 
 pub returns : goal.returns
 unfolding row_at
-returns c = rw (c.amount_at-amount.ensures, c.byte_at-b.ensures, c.byte_at-a.ensures, c.byte_at-kind.ensures, c.byte_at-owner.ensures)
+returns c = rw (c.byte_at.ensures, c.byte_at-2.ensures, c.byte_at-3.ensures, c.byte_at-4.ensures, c.amount_at.ensures)

@@ -1,5 +1,6 @@
 -- `sites_ok` meets its contract.
 -- Assumes nothing.
+use Rattle.std.proofs.Common.{rules, tests}
 use mathlib.Core.Path.{sym, ◌∙◌}
 use Rattle.by_bytes.specs.Bytes.{record_size, sites_ok}
 use Rattle.by_bytes.proofs.Reading.{parts_few}
@@ -10,8 +11,8 @@ each_ok-requires c = parts_few _ record_size 7 (sym c.whole.ensures ∙ c.if-who
 
 pub returns-then-whole : goal.returns-then-whole
 unfolding sites_ok
-returns-then-whole c = rw (sym c.whole.ensures ∙ c.if-whole.true) c.each_ok.ensures
+returns-then-whole c = search (tests, rules)
 
-pub returns : goal.returns
+pub returns-else-whole : goal.returns-else-whole
 unfolding sites_ok
-returns c = rw (sym c.whole.ensures ∙ c.if-whole.false)
+returns-else-whole c = search (tests, rules)

@@ -1,5 +1,6 @@
 -- `table_ok` meets its contract.
 -- Assumes nothing.
+use Rattle.std.proofs.Common.{rules, tests}
 use mathlib.Core.Path.{sym, ◌∙◌}
 use Rattle.by_bytes.specs.Bytes.{table_ok}
 use Rattle.by_bytes.proofs.Reading.{rows_length}
@@ -10,8 +11,8 @@ rows_ok-requires c = rows_length c.args.bytes.now (sym c.whole.ensures ∙ c.if-
 
 pub returns-then-whole : goal.returns-then-whole
 unfolding table_ok
-returns-then-whole c = rw (sym c.whole.ensures ∙ c.if-whole.true) c.rows_ok.ensures
+returns-then-whole c = search (tests, rules)
 
-pub returns : goal.returns
+pub returns-else-whole : goal.returns-else-whole
 unfolding table_ok
-returns c = rw (sym c.whole.ensures ∙ c.if-whole.false)
+returns-else-whole c = search (tests, rules)

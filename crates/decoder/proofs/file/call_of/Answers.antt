@@ -1,64 +1,25 @@
 -- `call_of` meets its contract.
 -- Assumes nothing.
-use borrow.Author.Tests.{eq-eqb, ne_eqb}
+use Rattle.std.proofs.Common.{rules, tests, arith}
 use Rattle.decoder.specs.RunFile.{call_of}
 use Rattle.decoder.proofs.file.call_of.Goals as goal
 
-pub returns-then-code-eq-OFFER : goal.returns-then-code-eq-OFFER
+pub returns-in-1 : goal.returns-in-1
 unfolding call_of
-returns-then-code-eq-OFFER c =
-    rw (
-      c.offer_of.ensures,
-      ← c.byte_at-code.ensures,
-      eq-eqb c.byte_at-code.result 1 c.if-code-eq-OFFER.true,
-    )
+returns-in-1 c = search (tests, rules)
 
-pub returns-then-code-eq-RECEIVE : goal.returns-then-code-eq-RECEIVE
+pub returns-in-2 : goal.returns-in-2
 unfolding call_of
-returns-then-code-eq-RECEIVE c =
-    rw (
-      c.receive_of.ensures,
-      ← c.byte_at-code.ensures,
-      ne_eqb c.byte_at-code.result 1 c.if-code-eq-OFFER.false,
-      eq-eqb c.byte_at-code.result 2 c.if-code-eq-RECEIVE.true,
-    )
+returns-in-2 c = search (tests, rules)
 
-pub returns-then-code-eq-ORDER : goal.returns-then-code-eq-ORDER
+pub returns-in-3 : goal.returns-in-3
 unfolding call_of
-returns-then-code-eq-ORDER c =
-    rw (
-      c.wide-field.ensures,
-      c.byte_at.ensures,
-      ← c.byte_at-code.ensures,
-      ne_eqb c.byte_at-code.result 1 c.if-code-eq-OFFER.false,
-      ne_eqb c.byte_at-code.result 2 c.if-code-eq-RECEIVE.false,
-      eq-eqb c.byte_at-code.result 3 c.if-code-eq-ORDER.true,
-    )
+returns-in-3 c = search (tests, rules)
 
-pub returns-then-code-eq-READ : goal.returns-then-code-eq-READ
+pub returns-in-4 : goal.returns-in-4
 unfolding call_of
-returns-then-code-eq-READ c =
-    rw (
-      c.cut_of-cut.ensures,
-      c.byte_at-then-code-eq-READ.ensures,
-      c.wide-field.ensures,
-      c.byte_at.ensures,
-      ← c.byte_at-code.ensures,
-      ne_eqb c.byte_at-code.result 1 c.if-code-eq-OFFER.false,
-      ne_eqb c.byte_at-code.result 2 c.if-code-eq-RECEIVE.false,
-      ne_eqb c.byte_at-code.result 3 c.if-code-eq-ORDER.false,
-      eq-eqb c.byte_at-code.result 4 c.if-code-eq-READ.true,
-    )
+returns-in-4 c = search (tests, rules)
 
-pub returns : goal.returns
+pub returns-in_default : goal.returns-in_default
 unfolding call_of
-returns c =
-    rw (
-      c.wide-field.ensures,
-      c.byte_at.ensures,
-      ← c.byte_at-code.ensures,
-      ne_eqb c.byte_at-code.result 1 c.if-code-eq-OFFER.false,
-      ne_eqb c.byte_at-code.result 2 c.if-code-eq-RECEIVE.false,
-      ne_eqb c.byte_at-code.result 3 c.if-code-eq-ORDER.false,
-      ne_eqb c.byte_at-code.result 4 c.if-code-eq-READ.false,
-    )
+returns-in_default c = search (tests, rules)

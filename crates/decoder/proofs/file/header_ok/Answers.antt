@@ -1,19 +1,13 @@
 -- `header_ok` meets its contract.
 -- Assumes nothing.
+use Rattle.std.proofs.Common.{rules, tests, arith}
 use Rattle.decoder.specs.RunFile.{header_ok}
 use Rattle.decoder.proofs.file.header_ok.Goals as goal
 
 pub returns-then-has_mark : goal.returns-then-has_mark
 unfolding header_ok
-returns-then-has_mark c =
-    rw (
-      c.pair.ensures,
-      c.byte_at-y.ensures,
-      c.byte_at-x.ensures,
-      ← c.has_mark.ensures,
-      c.if-has_mark.true,
-    )
+returns-then-has_mark c = search (tests, rules)
 
-pub returns : goal.returns
+pub returns-else-has_mark : goal.returns-else-has_mark
 unfolding header_ok
-returns c = rw (← c.has_mark.ensures, c.if-has_mark.false)
+returns-else-has_mark c = search (tests, rules)

@@ -5,16 +5,4 @@ use Rattle.decoder.proofs.file.receive_of.Goals as goal
 
 pub returns : goal.returns
 unfolding receive_of
-returns c =
-    rw (
-      c.cut_of-cut.ensures,
-      c.byte_at-5.ensures,
-      c.wide-to.ensures,
-      c.byte_at-4.ensures,
-      c.wide-from.ensures,
-      c.byte_at-3.ensures,
-      c.wide-posting.ensures,
-      c.byte_at-2.ensures,
-      c.wide-form.ensures,
-      c.byte_at.ensures,
-    )
+returns c = rw (c.from.ensures, c.byte_at.ensures, c.from-2.ensures, c.byte_at-2.ensures, c.from-3.ensures, c.byte_at-3.ensures, c.from-4.ensures, c.byte_at-4.ensures, c.cut_of.ensures, c.byte_at-5.ensures)

@@ -5,11 +5,4 @@ use Rattle.decoder.proofs.file.setup_of.Goals as goal
 
 pub returns : goal.returns
 unfolding setup_of
-returns c =
-    rw (
-      c.pair-matrix.ensures,
-      c.byte_at-y.ensures,
-      c.byte_at-x.ensures,
-      c.byte_at-f.ensures,
-      c.byte_at-n.ensures,
-    )
+returns c = rw (c.byte_at.ensures, c.byte_at-2.ensures, c.pair.ensures, c.byte_at-3.ensures, c.byte_at-4.ensures)

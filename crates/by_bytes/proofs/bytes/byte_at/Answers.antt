@@ -1,8 +1,0 @@
--- `byte_at` meets its contract.
--- Assumes nothing.
-use mathlib.Core.Path.{sym}
-use lib.ListN.{get_or-eq_default}
-use Rattle.by_bytes.proofs.bytes.byte_at.Goals as goal
-
-pub returns-then-bytes-i : goal.returns-then-bytes-i
-returns-then-bytes-i c = sym (get_or-eq_default c.args.bytes.now 0 c.if-bytes-i.true)
