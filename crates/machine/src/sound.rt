@@ -28,7 +28,7 @@ fn setup_ok(setup: Setup) -> bool
     if n <= 2 * f {
         return false;
     }
-    if posting::symmetric(setup.matrix) == false {
+    if !posting::symmetric(setup.matrix) {
         return false;
     }
     posting::has_fixed_pairs(setup.matrix)
@@ -38,10 +38,10 @@ fn setup_ok(setup: Setup) -> bool
 fn basis_ok(setup: Setup, down: u8, table: Table) -> bool
     ensures { result ≡ basis_sound setup down table }
 {
-    if setup_ok(setup) == false {
+    if !setup_ok(setup) {
         return false;
     }
-    if table_ok(setup.n, table) == false {
+    if !table_ok(setup.n, table) {
         return false;
     }
     sites_below(setup.n, down)
@@ -55,21 +55,21 @@ impl Board {
         let setup = self.setup;
         let n = setup.n;
         let table = self.table;
-        if basis_ok(setup, self.down, table) == false {
+        if !basis_ok(setup, self.down, table) {
             return false;
         }
         let count = table.count;
         let all = offered_set(count);
         let log = self.log;
         let sites = self.sites;
-        if sites_ok(n, count, log.count, all, sites) == false {
+        if !sites_ok(n, count, log.count, all, sites) {
             return false;
         }
         let tallies = self.tallies;
-        if tallies_ok(n, count, all, tallies) == false {
+        if !tallies_ok(n, count, all, tallies) {
             return false;
         }
-        if cells_ok(n, table, all, &self.flight.carried, &self.flight.masks) == false {
+        if !cells_ok(n, table, all, &self.flight.carried, &self.flight.masks) {
             return false;
         }
         let pool = self.pool;

@@ -59,7 +59,7 @@ pub fn has_none(figures: &[i64], p: u8) -> bool
 {
     for k in 0..ACCOUNTS {
         let a = account_at(figures, p, k);
-        if is_blank(a) == false {
+        if !is_blank(a) {
             return false;
         }
     }
@@ -69,13 +69,13 @@ pub fn has_none(figures: &[i64], p: u8) -> bool
 fn same_account(a: Figures, b: Figures) -> bool
     ensures { result ≡ same_account a b }
 {
-    if same_number(a.position, b.position) == false {
+    if !same_number(a.position, b.position) {
         return false;
     }
-    if same_number(a.rate, b.rate) == false {
+    if !same_number(a.rate, b.rate) {
         return false;
     }
-    if same_number(a.called, b.called) == false {
+    if !same_number(a.called, b.called) {
         return false;
     }
     same_number(a.settled, b.settled)
@@ -88,7 +88,7 @@ fn same_site(figures: &[i64], p: u8, q: u8) -> bool
     for k in 0..ACCOUNTS {
         let a = account_at(figures, p, k);
         let b = account_at(figures, q, k);
-        if same_account(a, b) == false {
+        if !same_account(a, b) {
             return false;
         }
     }
@@ -113,7 +113,7 @@ fn agree_with(figures: &[i64], n: u8, down: u8, p: u8) -> bool
     ensures { result ≡ agree_with figures.now n down p }
 {
     for q in 0..n {
-        if agree(figures, down, p, q) == false {
+        if !agree(figures, down, p, q) {
             return false;
         }
     }
@@ -125,7 +125,7 @@ pub fn all_agree(figures: &[i64], n: u8, down: u8) -> bool
     ensures { result ≡ all_agree figures.now n down }
 {
     for p in 0..n {
-        if agree_with(figures, n, down, p) == false {
+        if !agree_with(figures, n, down, p) {
             return false;
         }
     }

@@ -1,12 +1,11 @@
 -- `setup_ok` meets its contract.
 -- Assumes nothing.
-use mathlib.Core.Path.{sym}
+use mathlib.Core.Path.{sym, ◌∙◌}
 use mathlib.Core.Bool.{and-true}
 use borrow.Author.Tests.{lt-ltb, le-ltb, le-leb, lt-leb}
 use Rattle.posting.specs.Kinds.{has_fixed_pairs}
 use Rattle.sets.specs.Below.{all_of}
 use Rattle.machine.specs.Soundness.{setup_ok}
-use Rattle.sets.proofs.Truth.{passed, failed}
 use Rattle.machine.proofs.sound.setup_ok.Goals as goal
 
 pub returns-then-n-lt3 : goal.returns-then-n-lt3
@@ -25,15 +24,15 @@ returns-then-n-f c =
     let setup = c.args.setup in
     rw (le-leb 3 setup.n c.if-n-lt3.false, le-leb setup.n 7 c.if-n-gt7.false, le-ltb _ setup.n c.if-n-f.true)
 
-pub returns-then-symmetric-eqfalse : goal.returns-then-symmetric-eqfalse
+pub returns-then-not-symmetric : goal.returns-then-not-symmetric
 unfolding setup_ok all_of
-returns-then-symmetric-eqfalse c =
+returns-then-not-symmetric c =
     let setup = c.args.setup in
     rw (
       le-leb 3 setup.n c.if-n-lt3.false,
       le-leb setup.n 7 c.if-n-gt7.false,
       lt-ltb _ setup.n c.if-n-f.false,
-      failed c.symmetric.ensures c.if-symmetric-eqfalse.true,
+      sym c.symmetric.ensures ∙ c.if-not-symmetric.true,
     )
 
 pub returns : goal.returns
@@ -44,7 +43,7 @@ returns c =
       le-leb 3 setup.n c.if-n-lt3.false,
       le-leb setup.n 7 c.if-n-gt7.false,
       lt-ltb _ setup.n c.if-n-f.false,
-      passed c.symmetric.ensures c.if-symmetric-eqfalse.false,
+      sym c.symmetric.ensures ∙ c.if-not-symmetric.false,
       c.has_fixed_pairs.ensures,
     )
     (sym (and-true (has_fixed_pairs setup.matrix)))
