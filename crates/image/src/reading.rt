@@ -7,10 +7,10 @@ ghost use Rattle.site.specs.Sites.{sites};
 ghost use Rattle.image.specs.Layout.{row_long, record_long, site_long, tally_long, sites_at, tallies_at, entries_at, image_long};
 ghost use Rattle.image.specs.Image.{setup_from, set_from, row_from, record_from, site_from, tally_from, table_from, flight_from, board_from};
 
-use crate::numbers::{carried_from, column, count, good_from, masks_from, words_from};
+use crate::numbers::{bytes_from, count, words_from};
 use crate::{
-    COUNT_AT, DOWN_AT, ENTRIES_AT, IMAGE, LOG_AT, POOL_AT, ROW, ROWS_AT, SITE, SITES_AT,
-    TALLIES_AT, TALLY,
+    CARRIED_AT, COUNT_AT, DOWN_AT, ENTRIES_AT, GOOD_AT, IMAGE, LOG_AT, MASKS_AT, POOL_AT, ROW,
+    ROWS_AT, SITE, SITES_AT, TALLIES_AT, TALLY,
 };
 use flight::Flight;
 use machine::Board;
@@ -34,19 +34,18 @@ fn set_from(image: &[u64; IMAGE], at: usize) -> Set
     requires { at + words ≤ image_long }
     ensures { result ≡ set_from image.now at }
 {
-    let all = words_from(image, at);
-    Set { words: all }
+    Set {
+        words: words_from(image, at),
+    }
 }
 
 fn record_from(image: &[u64; IMAGE], at: usize) -> Record
     requires { at + record_long ≤ image_long }
     ensures { result ≡ record_from image.now at }
 {
-    let many = count(image, at);
-    let all = column(image, at + 1);
     Record {
-        count: many,
-        numbers: all,
+        count: count(image, at),
+        numbers: bytes_from(image, at + 1),
     }
 }
 
@@ -66,16 +65,13 @@ fn row_from(image: &[u64; IMAGE], at: usize) -> Posting
 fn table_from(image: &[u64; IMAGE]) -> Table
     ensures { result ≡ table_from image.now }
 {
-    let many = count(image, COUNT_AT);
-    let first = row_from(image, ROWS_AT);
-    let mut rows = [first; POSTINGS];
+    let mut rows = [row_from(image, ROWS_AT); POSTINGS];
     for m in 0..POSTINGS {
-        let row = row_from(image, ROWS_AT + m * ROW);
-        rows[m] = row;
+        rows[m] = row_from(image, ROWS_AT + m * ROW);
     }
     Table {
-        count: many,
-        rows: rows,
+        count: count(image, COUNT_AT),
+        rows,
     }
 }
 
@@ -83,36 +79,26 @@ fn site_from(image: &[u64; IMAGE], at: usize) -> Site
     requires { at + site_long ≤ image_long }
     ensures { result ≡ site_from image.now at }
 {
-    let seen = set_from(image, at);
-    let held = set_from(image, at + WORDS);
-    let stepped = set_from(image, at + 2 * WORDS);
-    let finished = set_from(image, at + 3 * WORDS);
-    let got = set_from(image, at + 4 * WORDS);
-    let heard = column(image, at + 5 * WORDS);
-    let good = column(image, at + 5 * WORDS + POSTINGS);
-    let place = count(image, at + 5 * WORDS + 2 * POSTINGS);
-    let delivered = record_from(image, at + 5 * WORDS + 2 * POSTINGS + 1);
+    let rest = at + 5 * WORDS;
     Site {
-        seen: seen,
-        held: held,
-        stepped: stepped,
-        finished: finished,
-        got: got,
-        heard: heard,
-        good: good,
-        place: place,
-        delivered: delivered,
+        seen: set_from(image, at),
+        held: set_from(image, at + WORDS),
+        stepped: set_from(image, at + 2 * WORDS),
+        finished: set_from(image, at + 3 * WORDS),
+        got: set_from(image, at + 4 * WORDS),
+        heard: bytes_from(image, rest),
+        good: bytes_from(image, rest + POSTINGS),
+        place: count(image, rest + 2 * POSTINGS),
+        delivered: record_from(image, rest + 2 * POSTINGS + 1),
     }
 }
 
 fn sites_from(image: &[u64; IMAGE]) -> [Site; SITES]
     ensures { result ≡ tabulate sites (λ p. site_from image.now (sites_at + p * site_long)) }
 {
-    let first = site_from(image, SITES_AT);
-    let mut all = [first; SITES];
+    let mut all = [site_from(image, SITES_AT); SITES];
     for p in 0..SITES {
-        let s = site_from(image, SITES_AT + p * SITE);
-        all[p] = s;
+        all[p] = site_from(image, SITES_AT + p * SITE);
     }
     all
 }
@@ -121,22 +107,19 @@ fn tally_from(image: &[u64; IMAGE], at: usize) -> Tally
     requires { at + tally_long ≤ image_long }
     ensures { result ≡ tally_from image.now at }
 {
-    let union = set_from(image, at + 2);
     Tally {
         heard: (image[at] % 256) as u8,
         has: (image[at + 1] % 256) as u8,
-        union: union,
+        union: set_from(image, at + 2),
     }
 }
 
 fn tallies_from(image: &[u64; IMAGE]) -> [Tally; POSTINGS]
     ensures { result ≡ tabulate capacity (λ m. tally_from image.now (tallies_at + m * tally_long)) }
 {
-    let first = tally_from(image, TALLIES_AT);
-    let mut all = [first; POSTINGS];
+    let mut all = [tally_from(image, TALLIES_AT); POSTINGS];
     for m in 0..POSTINGS {
-        let tally = tally_from(image, TALLIES_AT + m * TALLY);
-        all[m] = tally;
+        all[m] = tally_from(image, TALLIES_AT + m * TALLY);
     }
     all
 }
@@ -144,11 +127,9 @@ fn tallies_from(image: &[u64; IMAGE]) -> [Tally; POSTINGS]
 fn entries_from(image: &[u64; IMAGE]) -> [Set; POSTINGS]
     ensures { result ≡ tabulate capacity (λ m. set_from image.now (entries_at + m * words)) }
 {
-    let first = set_from(image, ENTRIES_AT);
-    let mut all = [first; POSTINGS];
+    let mut all = [set_from(image, ENTRIES_AT); POSTINGS];
     for m in 0..POSTINGS {
-        let entry = set_from(image, ENTRIES_AT + m * WORDS);
-        all[m] = entry;
+        all[m] = set_from(image, ENTRIES_AT + m * WORDS);
     }
     all
 }
@@ -156,13 +137,10 @@ fn entries_from(image: &[u64; IMAGE]) -> [Set; POSTINGS]
 fn flight_from(image: &[u64; IMAGE]) -> Flight
     ensures { result ≡ flight_from image.now }
 {
-    let masks = masks_from(image);
-    let good = good_from(image);
-    let carried = carried_from(image);
     Flight {
-        masks: masks,
-        good: good,
-        carried: carried,
+        masks: bytes_from(image, MASKS_AT),
+        good: bytes_from(image, GOOD_AT),
+        carried: words_from(image, CARRIED_AT),
     }
 }
 
@@ -171,23 +149,15 @@ fn flight_from(image: &[u64; IMAGE]) -> Flight
 pub fn board_from(image: &[u64; IMAGE]) -> Board
     ensures { result ≡ board_from image.now }
 {
-    let setup = setup_from(image);
-    let table = table_from(image);
-    let sites = sites_from(image);
-    let tallies = tallies_from(image);
-    let flight = flight_from(image);
-    let pool = set_from(image, POOL_AT);
-    let entries = entries_from(image);
-    let log = record_from(image, LOG_AT);
     Board {
-        setup: setup,
+        setup: setup_from(image),
         down: (image[DOWN_AT] % 256) as u8,
-        table: table,
-        sites: sites,
-        tallies: tallies,
-        flight: flight,
-        pool: pool,
-        entries: entries,
-        log: log,
+        table: table_from(image),
+        sites: sites_from(image),
+        tallies: tallies_from(image),
+        flight: flight_from(image),
+        pool: set_from(image, POOL_AT),
+        entries: entries_from(image),
+        log: record_from(image, LOG_AT),
     }
 }

@@ -7,12 +7,12 @@ pub returns : goal.returns
 unfolding board_from
 returns c =
     rw (
-      c.record_from-log.ensures,
-      c.entries_from-entries.ensures,
-      c.set_from-pool.ensures,
-      c.flight_from-flight.ensures,
-      c.tallies_from-tallies.ensures,
-      c.sites_from-sites.ensures,
-      c.table_from-table.ensures,
-      c.setup_from-setup.ensures,
+      c.record_from.ensures,
+      c.entries_from.ensures,
+      c.set_from.ensures,
+      c.flight_from.ensures,
+      c.tallies_from.ensures,
+      c.sites_from.ensures,
+      c.table_from.ensures,
+      c.setup_from.ensures,
     )

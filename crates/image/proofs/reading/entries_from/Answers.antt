@@ -13,7 +13,7 @@ loop-m-init c = (search rules, filled_begin capacity _ no_set _)
 pub loop-m-preserved : goal.loop-m-preserved
 loop-m-preserved c =
     let at = c.loop-m in
-    (search rules, filled_step capacity _ no_set at.all at.m c.set_from-entry.result c.loop-m-test.true c.set_from-entry.ensures at.invariant.1)
+    (search rules, filled_step capacity _ no_set at.all at.m c.set_from.result c.loop-m-test.true c.set_from.ensures at.invariant.1)
 
 pub returns : goal.returns
 returns c =

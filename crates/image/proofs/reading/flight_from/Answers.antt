@@ -5,4 +5,4 @@ use Rattle.image.proofs.reading.flight_from.Goals as goal
 
 pub returns : goal.returns
 unfolding flight_from
-returns c = rw (c.carried_from-carried.ensures, c.good_from-good.ensures, c.masks_from-masks.ensures)
+returns c = rw (c.words_from.ensures, c.bytes_from-2.ensures, c.bytes_from.ensures)

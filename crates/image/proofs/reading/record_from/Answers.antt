@@ -5,4 +5,4 @@ use Rattle.image.proofs.reading.record_from.Goals as goal
 
 pub returns : goal.returns
 unfolding record_from
-returns c = rw (c.column-all.ensures, c.count-many.ensures)
+returns c = rw (c.bytes_from.ensures, c.count.ensures)

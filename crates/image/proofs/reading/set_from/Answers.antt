@@ -5,4 +5,4 @@ use Rattle.image.proofs.reading.set_from.Goals as goal
 
 pub returns : goal.returns
 unfolding set_from
-returns c = rw c.words_from-all.ensures
+returns c = rw c.words_from.ensures

@@ -7,13 +7,13 @@ pub returns : goal.returns
 unfolding site_from
 returns c =
     rw (
-      c.record_from-delivered.ensures,
-      c.count-place.ensures,
-      c.column-good.ensures,
-      c.column-heard.ensures,
-      c.set_from-got.ensures,
-      c.set_from-finished.ensures,
-      c.set_from-stepped.ensures,
-      c.set_from-held.ensures,
-      c.set_from-seen.ensures,
+      c.record_from.ensures,
+      c.count.ensures,
+      c.bytes_from-2.ensures,
+      c.bytes_from.ensures,
+      c.set_from-5.ensures,
+      c.set_from-4.ensures,
+      c.set_from-3.ensures,
+      c.set_from-2.ensures,
+      c.set_from.ensures,
     )

@@ -12,7 +12,7 @@ loop-p-init c = (search rules, filled_begin sites _ no_site _)
 pub loop-p-preserved : goal.loop-p-preserved
 loop-p-preserved c =
     let at = c.loop-p in
-    (search rules, filled_step sites _ no_site at.all at.p c.site_from-s.result c.loop-p-test.true c.site_from-s.ensures at.invariant.1)
+    (search rules, filled_step sites _ no_site at.all at.p c.site_from.result c.loop-p-test.true c.site_from.ensures at.invariant.1)
 
 pub returns : goal.returns
 returns c =

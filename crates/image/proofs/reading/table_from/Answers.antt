@@ -17,11 +17,11 @@ loop-m-init c = (search rules, filled_begin capacity _ no_posting _)
 pub loop-m-preserved : goal.loop-m-preserved
 loop-m-preserved c =
     let at = c.loop-m in
-    (search rules, filled_step capacity _ no_posting at.rows at.m c.row_from-row.result c.loop-m-test.true c.row_from-row.ensures at.invariant.1)
+    (search rules, filled_step capacity _ no_posting at.rows at.m c.row_from.result c.loop-m-test.true c.row_from.ensures at.invariant.1)
 
 pub returns : goal.returns
 unfolding table_from
 returns c =
     let at = c.loop-m in
-    ap₂ (λ (n : ℕ) (rows : List Posting). record { count = n; rows = rows }) c.count-many.ensures
+    ap₂ (λ (n : ℕ) (rows : List Posting). record { count = n; rows = rows }) c.count.ensures
     (filled_all capacity _ no_posting at.rows at.m c.loop-m-test.false at.invariant.1)

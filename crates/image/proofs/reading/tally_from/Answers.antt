@@ -5,4 +5,4 @@ use Rattle.image.proofs.reading.tally_from.Goals as goal
 
 pub returns : goal.returns
 unfolding tally_from
-returns c = rw c.set_from-union.ensures
+returns c = rw c.set_from.ensures
