@@ -17,9 +17,10 @@ use Rattle.audit_rule.specs.Handed.{no_kind, posting_at}
 use Rattle.audit_input.specs.Input.{unused}
 use Rattle.audit_files.specs.declared.Entry.{Entry}
 use Rattle.audit_files.specs.declared.Refused.{Refused}
+use Rattle.audit_files.specs.declared.files.Store.{Store}
 use Rattle.audit_files.specs.Entries.{malformed, is_whole, number_in, kind_in, a_in, b_in, amount_in}
 use Rattle.audit_files.specs.Room.{Room}
-use Rattle.audit_files.specs.Files.{Store, lower, where_is, posting_of, keeps, kept, posting_code, kept_all, postings_refused}
+use Rattle.audit_files.specs.Files.{lower, where_is, posting_of, keeps, kept, posting_code, kept_all, postings_refused}
 
 -- ---- refusals
 

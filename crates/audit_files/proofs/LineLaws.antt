@@ -14,10 +14,10 @@ use borrow.Author.Tests.{leb-true, leb-false}
 use Rattle.broadcast.proofs.Tests.{test}
 use Rattle.audit_files.specs.declared.Entry.{Entry}
 use Rattle.audit_files.specs.declared.Refused.{Refused}
+use Rattle.audit_files.specs.declared.files.Store.{Store}
 use Rattle.audit_files.specs.Entries.{line_feed, past, first_line, entry_of, headed, top_line, entries, number_in}
-use Rattle.audit_files.specs.Files.{Store, refusing, nothing, lower, kept, posting_code, kept_all, postings_refused, line_code, lines_refused, numbers_of, most_lines, record_lines, with_lines}
-use Rattle.audit_files.specs.Room.{Room}
-use Rattle.audit_files.specs.Steps.{entries_in, store}
+use Rattle.audit_files.specs.Files.{refusing, nothing, lower, kept, posting_code, kept_all, postings_refused, line_code, lines_refused, numbers_of, most_lines, record_lines, with_lines}
+use Rattle.audit_files.specs.Steps.{entries_in}
 use Rattle.audit_files.proofs.FileLaws.{past_shorter, lines_next, lines_end}
 
 -- ---- the number of a line
@@ -30,61 +30,51 @@ top_most file = elim (test (headed file)) [ inl t ↦ rw t (omega arith) | inr f
 
 module _ (own : Bool) (file : ℕ) (text : List ℕ) (s₀ : Store) where
   -- what is kept of the lines so far, and their first refusal
-  pub record Noting (kinds firsts seconds amounts wheres : List ℕ) (refused : Refused) (line : ℕ) (rest : List ℕ) : Type 0 where
+  pub record Noting (s : Store) (refused : Refused) (line : ℕ) (rest : List ℕ) : Type 0 where
     pub few : line + length rest ≤ length text + 2
-    pub room : Room kinds firsts seconds amounts wheres
-    pub keeps_all : kept_all file line (entries_in rest) (store kinds firsts seconds amounts wheres) ≡ kept_all file (top_line text) (entries text) s₀
-    pub refuses_all : postings_refused own file line (entries_in rest) (store kinds firsts seconds amounts wheres) refused ≡ postings_refused own file (top_line text) (entries text) s₀ nothing
+    pub keeps_all : kept_all file line (entries_in rest) s ≡ kept_all file (top_line text) (entries text) s₀
+    pub refuses_all : postings_refused own file line (entries_in rest) s refused ≡ postings_refused own file (top_line text) (entries text) s₀ nothing
 
   pub noting_start : {refused : Refused} {line : ℕ} {rest : List ℕ} → refused ≡ nothing → line ≡ top_line text → (length rest ≤ length text) × (entries_in rest ≡ entries text)
-      → Room s₀.kinds s₀.firsts s₀.seconds s₀.amounts s₀.wheres
-      → Noting s₀.kinds s₀.firsts s₀.seconds s₀.amounts s₀.wheres refused line rest
-  noting_start {refused} {line} {rest} refused-is line_is rest-is r = let m = top_most text in record {
+      → Noting s₀ refused line rest
+  noting_start {refused} {line} {rest} refused-is line_is rest-is = let m = top_most text in record {
     few = omega (arith, line_is, m, rest-is.0);
-    room = r;
     keeps_all = ap (λ (n : ℕ). kept_all file n (entries_in rest) s₀) line_is ∙ ap (λ (l : List Entry). kept_all file (top_line text) l s₀) rest-is.1;
     refuses_all = ap (λ (z : Refused). postings_refused own file line (entries_in rest) s₀ z) refused-is ∙ ap (λ (n : ℕ). postings_refused own file n (entries_in rest) s₀ nothing) line_is ∙ ap (λ (l : List Entry). postings_refused own file (top_line text) l s₀ nothing) rest-is.1;
   }
 
-  module _ {kinds firsts seconds amounts wheres : List ℕ} {refused : Refused} {line : ℕ} {rest : List ℕ} (so_far : Noting kinds firsts seconds amounts wheres refused line rest) where
-    abbrev now_kept : Store
-    now_kept = store kinds firsts seconds amounts wheres
-
-    pub noting_next : {kinds' firsts' seconds' amounts' wheres' : List ℕ} {refused' : Refused} (e : Entry) {next : List ℕ} → 0 < length rest → e ≡ entry_of (first_line rest) → next ≡ past line_feed rest
-        → length kinds' ≡ length kinds → length firsts' ≡ length firsts → length seconds' ≡ length seconds → length amounts' ≡ length amounts → length wheres' ≡ length wheres
-        → store kinds' firsts' seconds' amounts' wheres' ≡ kept file line e now_kept
-        → refused' ≡ lower refused (refusing (posting_code own kinds e) file line (number_in e) (get_or wheres (number_in e) 0))
-        → Noting kinds' firsts' seconds' amounts' wheres' refused' (line + 1) next
+  module _ {s : Store} {refused : Refused} {line : ℕ} {rest : List ℕ} (so_far : Noting s refused line rest) where
+    pub noting_next : {s' : Store} {refused' : Refused} (e : Entry) {next : List ℕ} → 0 < length rest → e ≡ entry_of (first_line rest) → next ≡ past line_feed rest
+        → s' ≡ kept file line e s
+        → refused' ≡ lower refused (refusing (posting_code own s.kinds e) file line (number_in e) (get_or s.wheres (number_in e) 0))
+        → Noting s' refused' (line + 1) next
     unfolding kept_all postings_refused
-    noting_next {kinds'} {firsts'} {seconds'} {amounts'} {wheres'} {refused'} e {next} h e-is next-is k₁ k₂ k₃ k₄ k₅ kept-is refused-is =
+    noting_next {s'} {refused'} e {next} h e-is next-is kept-is refused-is =
         let shorter : length next < length rest = rw next-is (past_shorter rest h) in
         let few = so_far.few in
-        let r = so_far.room in
-        let new = store kinds' firsts' seconds' amounts' wheres' in
         let left = entries_in next in
         let here : e ∷ left ≡ entries_in rest = rw (e-is, next-is) (sym (lines_next rest h)) in
         record {
           few = omega (arith, shorter, few);
-          room = record { kinds_all = k₁ ∙ r.kinds_all; firsts_all = k₂ ∙ r.firsts_all; seconds_all = k₃ ∙ r.seconds_all; amounts_all = k₄ ∙ r.amounts_all; wheres_all = k₅ ∙ r.wheres_all };
           keeps_all =
-              ap (λ (n : ℕ). kept_all file n left new) (add-one line)
-              ∙ ap (λ (s : Store). kept_all file (suc line) left s) kept-is
-              ∙ ap (λ (l : List Entry). kept_all file line l now_kept) here
+              ap (λ (n : ℕ). kept_all file n left s') (add-one line)
+              ∙ ap (λ (z : Store). kept_all file (suc line) left z) kept-is
+              ∙ ap (λ (l : List Entry). kept_all file line l s) here
               ∙ so_far.keeps_all;
           refuses_all =
-              ap (λ (n : ℕ). postings_refused own file n left new refused') (add-one line)
-              ∙ ap (λ (s : Store). postings_refused own file (suc line) left s refused') kept-is
-              ∙ ap (λ (s : Refused). postings_refused own file (suc line) left (kept file line e now_kept) s) refused-is
-              ∙ ap (λ (l : List Entry). postings_refused own file line l now_kept refused) here
+              ap (λ (n : ℕ). postings_refused own file n left s' refused') (add-one line)
+              ∙ ap (λ (z : Store). postings_refused own file (suc line) left z refused') kept-is
+              ∙ ap (λ (z : Refused). postings_refused own file (suc line) left (kept file line e s) z) refused-is
+              ∙ ap (λ (l : List Entry). postings_refused own file line l s refused) here
               ∙ so_far.refuses_all;
         }
 
-    pub noting_end : length rest ≡ 0 → (refused ≡ postings_refused own file (top_line text) (entries text) s₀ nothing) × (now_kept ≡ kept_all file (top_line text) (entries text) s₀)
+    pub noting_end : length rest ≡ 0 → (refused ≡ postings_refused own file (top_line text) (entries text) s₀ nothing) × (s ≡ kept_all file (top_line text) (entries text) s₀)
     unfolding kept_all postings_refused
     noting_end h =
         let none = sym (lines_end rest h) in (
-          ap (λ (l : List Entry). postings_refused own file line l now_kept refused) none ∙ so_far.refuses_all,
-          ap (λ (l : List Entry). kept_all file line l now_kept) none ∙ so_far.keeps_all,
+          ap (λ (l : List Entry). postings_refused own file line l s refused) none ∙ so_far.refuses_all,
+          ap (λ (l : List Entry). kept_all file line l s) none ∙ so_far.keeps_all,
         )
 
 -- ---- a record's lines

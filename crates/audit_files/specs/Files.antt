@@ -1,5 +1,5 @@
 -- What is made of the files of an audit: postings by their numbers, the lines of records, and the first refusal with its file and line.
--- Rests on the declared Entry and Refused, audit_input for numbers without a posting, and posting. File 0 holds the postings, file p + 1 is site p's.
+-- Rests on the declared Entry, Refused and Store, audit_input for numbers without a posting, and posting. File 0 holds the postings, file p + 1 is site p's.
 use Rattle.std.specs.Prelude.{ℕ, suc, ◌+◌, ◌*◌, Bool, cond, not, ◌&&◌, ◌||◌, List, [], ◌∷◌, ◌++◌, eqb, ltb, length, get_or, set, take, drop}
 use Rattle.posting.specs.Kinds.{fields_ok}
 use Rattle.posting.specs.declared.Posting.{Posting}
@@ -7,6 +7,7 @@ use Rattle.audit_input.specs.Input.{unused}
 use Rattle.audit_files.specs.declared.Entry.{Entry}
 use Rattle.audit_files.specs.Entries.{is_malformed, is_whole, number_in, kind_in, a_in, b_in, amount_in}
 use Rattle.audit_files.specs.declared.Refused.{Refused}
+use Rattle.audit_files.specs.declared.files.Store.{Store}
 
 -- ---- refusals
 
@@ -23,14 +24,6 @@ unfoldable pub lower : Refused → Refused → Refused
 lower r s = cond (not (eqb s.code 0) && (eqb r.code 0 || ltb s.code r.code)) s r
 
 -- ---- postings
-
--- The postings read so far: their fields by number, and where each was read.
-pub record Store : Type 0 where
-  pub kinds : List ℕ
-  pub firsts : List ℕ
-  pub seconds : List ℕ
-  pub amounts : List ℕ
-  pub wheres : List ℕ
 
 -- a line of a file as one number
 unfoldable pub where_is : (file line : ℕ) → ℕ

@@ -3,11 +3,10 @@
 #![tactic(auto)]
 
 ghost use Rattle.std.specs.Prelude.{◌≡◌, ◌+◌, ◌<◌, ◌≤◌, length, IfOk, IfSome};
-ghost use Rattle.audit_files.specs.Room.{Room};
 
 use audit_files::Refused;
-use audit_files::files::{Read, lower, read_postings, read_record, refusing, top_line};
-use audit_input::matrix_ok;
+use audit_files::files::{Read, Store, lower, read_postings, read_record, refusing, top_line};
+use audit_input::{NO_KIND, POSTINGS, matrix_ok};
 use audit_report::report;
 use audit_witness::refusals::put_refused;
 use reading::read_full;
@@ -18,8 +17,6 @@ use std::{fs, io, str};
 
 // What fills it is refused, however much follows; no file that is well formed does.
 const TEXT: usize = 2_097_152;
-
-const POSTINGS: usize = 65_536;
 
 const SITES: usize = 7;
 
@@ -153,20 +150,11 @@ fn not_read(file: usize, why: Unread) -> Refused {
 }
 
 // The postings that a record brings, if there is no file of postings.
-fn read_own(
-    own: bool,
-    file: usize,
-    text: &[u8],
-    kinds: &mut [u8],
-    firsts: &mut [u8],
-    seconds: &mut [u8],
-    amounts: &mut [u32],
-    wheres: &mut [u32],
-) -> Refused
-    requires { Room kinds.old firsts.old seconds.old amounts.old wheres.old × (file ≤ 7) × (length text.now ≤ 2_097_152) }
+fn read_own(own: bool, file: usize, text: &[u8], store: &mut Store) -> Refused
+    requires { (file ≤ 7) × (length text.now ≤ 2_097_152) }
 {
     if own {
-        read_postings(true, file, text, kinds, firsts, seconds, amounts, wheres)
+        read_postings(true, file, text, store)
     } else {
         nothing()
     }
@@ -178,17 +166,13 @@ fn read_site(
     own: bool,
     number: usize,
     p: usize,
-    text: &mut [u8],
-    kinds: &mut [u8],
-    firsts: &mut [u8],
-    seconds: &mut [u8],
-    amounts: &mut [u32],
-    wheres: &mut [u32],
-    lines: &mut [u16],
+    text: &mut [u8; TEXT],
+    store: &mut Store,
+    lines: &mut [u16; LINES],
     from: usize,
-    tops: &mut [u8],
+    tops: &mut [u8; SITES],
 ) -> Read
-    requires { Room kinds.old firsts.old seconds.old amounts.old wheres.old × (p < 7) × (length tops.old ≡ 7) × (length text.old ≡ 2_097_152) × (from + 65_537 ≤ length lines.old) }
+    requires { (p < 7) × (from + 65_537 ≤ 458_759) }
     ensures { result.count ≤ 65_537 }
 {
     let n = match load(rt, number, text) {
@@ -201,27 +185,8 @@ fn read_site(
         }
     };
     tops[p] = top_line(&text[..n]) as u8;
-    let brought = read_own(
-        own,
-        p + 1,
-        &text[..n],
-        kinds,
-        firsts,
-        seconds,
-        amounts,
-        wheres,
-    );
-    let read = read_record(
-        p + 1,
-        &text[..n],
-        kinds,
-        firsts,
-        seconds,
-        amounts,
-        wheres,
-        lines,
-        from,
-    );
+    let brought = read_own(own, p + 1, &text[..n], store);
+    let read = read_record(p + 1, &text[..n], store, lines, from);
     let refused = lower(brought, read.refused);
     Read {
         count: read.count,
@@ -235,37 +200,19 @@ fn read_sites(
     own: bool,
     number: usize,
     n: usize,
-    text: &mut [u8],
-    kinds: &mut [u8],
-    firsts: &mut [u8],
-    seconds: &mut [u8],
-    amounts: &mut [u32],
-    wheres: &mut [u32],
-    lines: &mut [u16],
-    ends: &mut [usize],
-    tops: &mut [u8],
+    text: &mut [u8; TEXT],
+    store: &mut Store,
+    lines: &mut [u16; LINES],
+    ends: &mut [usize; SITES],
+    tops: &mut [u8; SITES],
 ) -> Read
-    requires { Room kinds.old firsts.old seconds.old amounts.old wheres.old × (n ≤ 7) × (number ≤ 1_000_000) × (length ends.old ≡ 7) × (length tops.old ≡ 7) × (length text.old ≡ 2_097_152) × (length lines.old ≡ 458_759) }
+    requires { (n ≤ 7) × (number ≤ 1_000_000) }
     ensures { result.count ≤ 458_759 }
 {
     let mut refused = nothing();
     let mut from = 0;
     for p in 0..n {
-        let read = read_site(
-            rt,
-            own,
-            number + p,
-            p,
-            text,
-            kinds,
-            firsts,
-            seconds,
-            amounts,
-            wheres,
-            lines,
-            from,
-            tops,
-        );
+        let read = read_site(rt, own, number + p, p, text, store, lines, from, tops);
         refused = lower(refused, read.refused);
         from += read.count;
         ends[p] = from;
@@ -281,29 +228,14 @@ fn read_first(
     rt: &(impl Files + Env + Eprint),
     own: bool,
     number: usize,
-    text: &mut [u8],
-    kinds: &mut [u8],
-    firsts: &mut [u8],
-    seconds: &mut [u8],
-    amounts: &mut [u32],
-    wheres: &mut [u32],
-) -> Refused
-    requires { Room kinds.old firsts.old seconds.old amounts.old wheres.old × (length text.old ≡ 2_097_152) }
-{
+    text: &mut [u8; TEXT],
+    store: &mut Store,
+) -> Refused {
     if own {
         return nothing();
     }
     match load(rt, number, text) {
-        Ok(n) => read_postings(
-            false,
-            0,
-            &text[..n],
-            kinds,
-            firsts,
-            seconds,
-            amounts,
-            wheres,
-        ),
+        Ok(n) => read_postings(false, 0, &text[..n], store),
         Err(why) => not_read(0, why),
     }
 }
@@ -320,39 +252,19 @@ fn read_files(
     rt: &(impl Files + Env + Eprint),
     number: usize,
     n: usize,
-    text: &mut [u8],
-    kinds: &mut [u8],
-    firsts: &mut [u8],
-    seconds: &mut [u8],
-    amounts: &mut [u32],
-    wheres: &mut [u32],
-    lines: &mut [u16],
-    ends: &mut [usize],
-    tops: &mut [u8],
+    text: &mut [u8; TEXT],
+    store: &mut Store,
+    lines: &mut [u16; LINES],
+    ends: &mut [usize; SITES],
+    tops: &mut [u8; SITES],
 ) -> Read
-    requires { Room kinds.old firsts.old seconds.old amounts.old wheres.old × (n ≤ 7) × (number < 1_000_000) × (length ends.old ≡ 7) × (length tops.old ≡ 7) × (length text.old ≡ 2_097_152) × (length lines.old ≡ 458_759) }
+    requires { (n ≤ 7) × (number < 1_000_000) }
     ensures count_bound { result.count ≤ 458_759 }
-    ensures room { Room kinds.new firsts.new seconds.new amounts.new wheres.new × (length ends.new ≡ 7) × (length tops.new ≡ 7) × (length lines.new ≡ 458_759) }
+    ensures lengths { (length lines.new ≡ 458_759) × (length ends.new ≡ 7) × (length tops.new ≡ 7) }
 {
     let own = is_own(rt, number);
-    let first = read_first(
-        rt, own, number, text, kinds, firsts, seconds, amounts, wheres,
-    );
-    let read = read_sites(
-        rt,
-        own,
-        number + 1,
-        n,
-        text,
-        kinds,
-        firsts,
-        seconds,
-        amounts,
-        wheres,
-        lines,
-        ends,
-        tops,
-    );
+    let first = read_first(rt, own, number, text, store);
+    let read = read_sites(rt, own, number + 1, n, text, store, lines, ends, tops);
     let refused = lower(first, read.refused);
     Read {
         count: read.count,
@@ -378,14 +290,10 @@ fn say_too_long(rt: &impl Eprint) {
 fn report_read(
     rt: &(impl Print + Eprint),
     matrix: u16,
-    kinds: &[u8],
-    firsts: &[u8],
-    seconds: &[u8],
-    amounts: &[u32],
     lines: &[u16],
     ends: &[usize],
     tops: &[u8],
-    places: &mut [u32],
+    store: &mut Store,
 )
     requires { (length lines.now ≤ 458_759) × (length ends.now ≤ length tops.now) }
 {
@@ -395,15 +303,15 @@ fn report_read(
     let mut out = [0; OUTPUT];
     let answer = report(
         matrix,
-        kinds,
-        firsts,
-        seconds,
-        amounts,
+        &store.kinds,
+        &store.firsts,
+        &store.seconds,
+        &store.amounts,
         lines,
         ends,
         tops,
         &mut marks,
-        places,
+        &mut store.wheres,
         &mut ahead,
         &mut figures,
         &mut out,
@@ -421,27 +329,18 @@ fn report_on(rt: &(impl Files + Env + Print + Eprint), matrix: u16, number: usiz
     requires { (n ≤ 7) × (number < 1_000_000) }
 {
     let mut text = [0; TEXT];
-    let mut kinds = [255; POSTINGS];
-    let mut firsts = [0; POSTINGS];
-    let mut seconds = [0; POSTINGS];
-    let mut amounts = [0; POSTINGS];
-    let mut places = [0; POSTINGS];
+    let mut store = Store {
+        kinds: [NO_KIND; POSTINGS],
+        firsts: [0; POSTINGS],
+        seconds: [0; POSTINGS],
+        amounts: [0; POSTINGS],
+        wheres: [0; POSTINGS],
+    };
     let mut lines = [0; LINES];
     let mut ends = [0; SITES];
     let mut tops = [1; SITES];
     let read = read_files(
-        rt,
-        number,
-        n,
-        &mut text,
-        &mut kinds,
-        &mut firsts,
-        &mut seconds,
-        &mut amounts,
-        &mut places,
-        &mut lines,
-        &mut ends,
-        &mut tops,
+        rt, number, n, &mut text, &mut store, &mut lines, &mut ends, &mut tops,
     );
     if read.refused.code != 0 {
         say_refused(rt, read.refused);
@@ -450,14 +349,10 @@ fn report_on(rt: &(impl Files + Env + Print + Eprint), matrix: u16, number: usiz
     report_read(
         rt,
         matrix,
-        &kinds,
-        &firsts,
-        &seconds,
-        &amounts,
         &lines[..read.count],
         &ends[..n],
         &tops,
-        &mut places,
+        &mut store,
     );
 }
 

@@ -16,10 +16,10 @@ pub returns-in_default-e : goal.returns-in_default-e
 unfolding line_code agrees
 returns-in_default-e c = search (rules, tests)
 
-pub returns-then-amounts-x : goal.returns-then-amounts-x
+pub returns-then-store-x-4 : goal.returns-then-store-x-4
 unfolding line_code agrees
-returns-then-amounts-x c = search (rules, tests)
+returns-then-store-x-4 c = search (rules, tests)
 
-pub returns-else-kinds-x : goal.returns-else-kinds-x
+pub returns-else-store-x : goal.returns-else-store-x
 unfolding line_code agrees
-returns-else-kinds-x c = search (rules, tests)
+returns-else-store-x c = search (rules, tests)
