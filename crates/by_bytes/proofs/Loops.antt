@@ -1,12 +1,12 @@
 -- One turn more of a loop that stores a function's values.
 -- Rests on books. Assumes nothing.
-use Prim.Native.Nat.{ℕ, suc, ◌+◌, ◌<◌, ◌≤◌}
+use Prim.Native.Nat.{ℕ, ◌+◌, ◌<◌, ◌≤◌}
 use mathlib.Core.Path.{◌≡◌, refl, sym, ap, ◌∙◌}
-use mathlib.Core.List.{List, ◌++◌}
+use mathlib.Core.List.{List}
 use native.Mathlib.Numerals.{add-one}
 use native.Mathlib.Omega.{arith}
-use lib.ListN.{length, get_or, take, drop, set, replicate, length-replicate, length-set}
-use lib.Seq.{take-suc, take-suc-set, take_all, length-take-le, drop-cons, append_snoc, set_at}
+use lib.ListN.{length, take, set, replicate, length-replicate, length-set}
+use lib.Seq.{take-suc-set, take_all}
 use Rattle.books.specs.Books.{tabulate}
 
 -- ---- stores
