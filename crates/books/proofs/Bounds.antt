@@ -2,10 +2,10 @@
 -- Rests on Effect, Bounds, Effects and Signed, on posting. Assumes nothing.
 use mathlib.Core.Path.{◌≡◌, refl}
 use mathlib.Core.Bool.{Bool, true, false, cond}
-use Prim.Native.Nat.{ℕ, zero, suc, ◌+◌, ◌*◌, ◌<◌, ◌≤◌}
+use Prim.Native.Nat.{ℕ, zero, suc, ◌+◌, ◌*◌, ◌≤◌}
 use native.Mathlib.Nat.{mul-le-mul, mul-le-mul_left}
 use native.Mathlib.Omega.{arith}
-use lib.IntN.{ℤ, pos, negsuc, nat_abs, ◌+ℤ◌, ◌-ℤ◌, ◌*ℤ◌}
+use lib.IntN.{ℤ, pos, negsuc, nat_abs, ◌+ℤ◌, ◌-ℤ◌}
 use lib.Dec.{eqb}
 use Rattle.posting.specs.declared.Posting.{Posting}
 use Rattle.posting.specs.Kinds.{trade, rate}
@@ -15,7 +15,7 @@ use Rattle.books.specs.declared.Figures.{Figures}
 use Rattle.books.specs.Effect.{size_of_call, on_trade, on_rate, on_call, on_net, change, effect}
 use Rattle.books.specs.Bounds.{reach, After, Room}
 use Rattle.books.proofs.Effects.{no_kind, call_below_zero, call_at_zero, call_above_zero}
-use Rattle.books.proofs.Signed.{size_sum, size_difference, size_product}
+use Rattle.books.proofs.Signed.{size_sum, size_difference}
 
 -- ---- one posting
 
@@ -80,7 +80,3 @@ room capacity n s small within h =
     let up : suc n ≤ 10001 = omega arith in
     let far : reach n ≤ 110000000000000 = omega arith in
     record { position = omega arith; rate = h.rate; called = omega (arith, mul-le-mul up far); settled = omega (arith, mul-le-mul up far) }
-
--- what one posting more asks of the machine
-pub room_product : (s : Figures) → Room s → nat_abs (s.position *ℤ s.rate) < 9223372036854775808
-room_product s h = omega (arith, size_product s.position s.rate, mul-le-mul h.position h.rate)

@@ -1,17 +1,16 @@
 -- Signed numbers: the sizes of sums, differences and products, and what the machine makes of an operation on i64 whose result fits.
 -- Rests on nothing of the repository. Assumes nothing.
 use mathlib.Core.Path.{◌≡◌, refl, sym, ap, ap₂, ◌∙◌, subst}
-use mathlib.Core.Bool.{Bool, true, false, true≢false}
-use Prim.Native.Nat.{ℕ, zero, suc, ◌+◌, ◌*◌, ◌-◌, ◌<◌, ◌≤◌}
+use mathlib.Core.Bool.{Bool, true, false}
+use Prim.Native.Nat.{ℕ, zero, suc, ◌+◌, ◌*◌, ◌<◌, ◌≤◌}
 use native.Mathlib.Nat.{le_refl}
 use native.Mathlib.Omega.{arith}
-use lib.Dec.{T, ltb}
+use lib.Dec.{ltb}
 use lib.IntN.{ℤ, pos, negsuc, neg_ℤ, nat_abs, ◌+ℤ◌, ◌-ℤ◌, ◌*ℤ◌, sub_ℕ, +ℤ_assoc, +ℤ_comm}
-use lib.Signed.{non_neg, lt_z}
-use borrow.Author.Tests.{ltb-true, ltb-false, le-ltb}
+use borrow.Author.Tests.{ltb-true, ltb-false}
 use mir.Syntax.{w64}
-use mir.Val.{SFits, Fits, to_z, of_z}
-use mir.Facts.{to_z-of_z, Fits-nat_abs}
+use mir.Val.{SFits, to_z, of_z}
+use mir.Facts.{to_z-of_z}
 
 -- ---- sums in another order
 pub sum_swap : (x y z : ℤ) → (x +ℤ y) +ℤ z ≡ (x +ℤ z) +ℤ y
@@ -79,42 +78,3 @@ module _ (x y : ℤ) (h : nat_abs x + nat_abs y < 9223372036854775808) where
 
   pub sum_is : read_back (read_back x +ℤ read_back y) ≡ x +ℤ y
   sum_is = op_is ◌+ℤ◌ x y fits_x fits_y (omega (arith, size_sum x y))
-
-  pub difference_fits : SFits w64 (read_back x -ℤ read_back y)
-  difference_fits = op_fits ◌-ℤ◌ x y fits_x fits_y (omega (arith, size_difference x y))
-
-  pub difference_is : read_back (read_back x -ℤ read_back y) ≡ x -ℤ y
-  difference_is = op_is ◌-ℤ◌ x y fits_x fits_y (omega (arith, size_difference x y))
-
--- ---- the size of an i64: that of a negative one is one more than -1 - x, which fits at the least one too
-
-less_one : (n : ℕ) → negsuc 0 -ℤ negsuc n ≡ pos n
-less_one n =
-    let h : 1 ≤ suc n = omega arith in
-    let e : suc n - 1 ≡ n = omega arith in
-    rw (le-ltb (suc n) 1 h, e)
-
-pub record Negative (x : ℤ) : Type 0 where
-  pub rest : ℕ
-  pub is : read_back (negsuc 0 -ℤ read_back x) ≡ pos rest
-  pub fit : SFits w64 (negsuc 0 -ℤ read_back x)
-  pub size : rest + 1 ≡ nat_abs x
-  pub bound : rest < 9223372036854775808
-
-pub negative : (x : ℤ) → SFits w64 x → lt_z (read_back x) (pos 0) ≡ true → Negative x
-negative x fx t = go x fx (rw (to_z-of_z fx) at t)
-  where
-    go : (x : ℤ) → SFits w64 x → lt_z x (pos 0) ≡ true → Negative x
-    go (pos n) f e = absurd (omega (arith, ltb-true n 0 e))
-    go (negsuc n) f e =
-        let h : n < 9223372036854775808 = f.sfits in
-        let g : SFits w64 (pos n) = record { sfits = h } in
-        let q : negsuc 0 -ℤ read_back (negsuc n) ≡ pos n = rw (to_z-of_z f) (less_one n) in
-        record { rest = n; is = ap (λ (z : ℤ). read_back z) q ∙ to_z-of_z g; fit = subst (λ (z : ℤ). SFits w64 z) (sym q) g; size = omega arith; bound = h }
-
-pub not_negative : (x : ℤ) → SFits w64 x → lt_z (read_back x) (pos 0) ≡ false → T (non_neg (read_back x)) × Fits w64 (nat_abs (read_back x))
-not_negative x fx t = rw (to_z-of_z fx) (go x (rw (to_z-of_z fx) at t), Fits-nat_abs tt fx)
-  where
-    go : (x : ℤ) → lt_z x (pos 0) ≡ false → T (non_neg x)
-    go (pos n) e = tt
-    go (negsuc n) e = absurd (true≢false e)

@@ -1,12 +1,12 @@
--- One turn more of a loop that stores a function's values, and of one that copies.
+-- One turn more of a loop that stores a function's values.
 -- Rests on books. Assumes nothing.
-use Prim.Native.Nat.{ℕ, suc, ◌+◌, ◌<◌, ◌≤◌}
+use Prim.Native.Nat.{ℕ, ◌+◌, ◌<◌, ◌≤◌}
 use mathlib.Core.Path.{◌≡◌, refl, sym, ap, ◌∙◌}
-use mathlib.Core.List.{List, ◌++◌}
+use mathlib.Core.List.{List}
 use native.Mathlib.Numerals.{add-one}
 use native.Mathlib.Omega.{arith}
-use lib.ListN.{length, get_or, take, drop, set, replicate, length-replicate, length-set}
-use lib.Seq.{take-suc, take-suc-set, take_all, length-take-le, drop-cons, append_snoc, set_at}
+use lib.ListN.{length, take, set, replicate, length-replicate, length-set}
+use lib.Seq.{take-suc-set, take_all}
 use Rattle.books.specs.Books.{tabulate}
 
 -- ---- stores
@@ -28,14 +28,3 @@ module _ {A : Type 0} (f : ℕ → A) (k : ℕ) where
 
   pub stored_all : (l : List A) (n : ℕ) → n ≡ k → Stored n l → l ≡ tabulate k f
   stored_all l n e t = let b : length l ≤ n = omega arith in sym (take_all n l b) ∙ t.1 ∙ ap (λ (m : ℕ). tabulate m f) e
-
--- ---- a copy, element by element
-pub copied : {A : Type 0} (s d : List A) (z : A) (i : ℕ) → i < length s → i < length d
-    → set (take i s ++ drop i d) i (get_or s i z) ≡ take (i + 1) s ++ drop (i + 1) d
-copied {A} s d z i hs hd =
-    let x = get_or s i z in
-    let n : i ≤ length s = omega arith in
-    ap (λ (r : List A). set (take i s ++ r) i x) (drop-cons d i z hd)
-    ∙ set_at (take i s) (get_or d i z) (drop (suc i) d) x i (length-take-le i s n)
-    ∙ sym (append_snoc (take i s) x (drop (suc i) d))
-    ∙ rw (add-one, take-suc s i z hs)

@@ -21,21 +21,14 @@ const BLOCKS: usize = MASKS / BLOCK;
 fn only_to(owner: u8, mask: u8) -> bool
     ensures { result ≡ eqb mask (2 ^ owner) }
 {
-    if 8 <= owner {
-        return false;
-    }
-    mask == (1 << owner)
+    owner < 8 && mask == (1 << owner)
 }
 
 // A THIRD about m goes to its owner, and its set names postings offered.
 fn third_ok(owner: u8, all: Set, carried: &[u64; LOADS], m: usize, from: usize, mask: u8) -> bool
     ensures { result ≡ third_sound owner all carried.now m from mask }
 {
-    if only_to(owner, mask) {
-        let load = flight::carried_set(carried, m, from);
-        return load.subset(all);
-    }
-    false
+    only_to(owner, mask) && flight::carried_set(carried, m, from).subset(all)
 }
 
 // Cell k, whose posting has this owner.
@@ -55,19 +48,10 @@ fn cell_ok(
     }
     let m = k / SITES % POSTINGS;
     let from = k % SITES;
-    if posting::offered_by(count, m) == false {
-        return false;
-    }
-    if n as usize <= from {
-        return false;
-    }
-    if sites_below(n, mask) == false {
-        return false;
-    }
-    if k / PAIRS != THIRD {
-        return true;
-    }
-    third_ok(owner, all, carried, m, from, mask)
+    posting::offered_by(count, m)
+        && from < usize::from(n)
+        && sites_below(n, mask)
+        && (k / PAIRS != THIRD || third_ok(owner, all, carried, m, from, mask))
 }
 
 // The receivers of a block of cells, from cell k on.
@@ -77,7 +61,7 @@ fn receivers(masks: &[u8; MASKS], k: usize) -> u8
 {
     let mut some = 0;
     for i in 0..BLOCK {
-        some = some | masks[k + i];
+        some |= masks[k + i];
     }
     some
 }
@@ -94,15 +78,14 @@ fn block_ok<'a>(
     requires { k + block ≤ cells }
     ensures { result ≡ block_sound n table all carried.now masks.now k }
 {
-    let count = table.count;
     for i in 0..BLOCK {
         let mask = masks[k + i];
         if mask == 0 {
             continue;
         }
         let m = (k + i) / SITES % POSTINGS;
-        let p = table.rows[m];
-        if cell_ok(n, count, p.owner, all, carried, k + i, mask) == false {
+        let owner = table.rows[m].owner;
+        if !cell_ok(n, table.count, owner, all, carried, k + i, mask) {
             return false;
         }
     }
@@ -124,7 +107,7 @@ pub fn cells_ok<'a>(
         if receivers(masks, k) == 0 {
             continue;
         }
-        if block_ok(n, table, all, carried, masks, k) == false {
+        if !block_ok(n, table, all, carried, masks, k) {
             return false;
         }
     }

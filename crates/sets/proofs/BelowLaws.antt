@@ -67,12 +67,12 @@ pub all_range : (p : ℕ → Bool) (n : ℕ) → list_all p (range_with_len 0 n)
 all_range p n = all_range_from p n 0 ∙ all_ext (λ i. p (0 + i)) p n (λ i l. ap p (omega arith))
 
 -- as `all` over the first n of a list tests them
-pub all_taken : (p : ℕ → Bool) (n : ℕ) (l : List ℕ) → n ≤ length l → list_all p (take n l) ≡ all_below (λ i. p (get_or l i 0)) n
+pub all_taken : {A : Type 0} (p : A → Bool) (d : A) (n : ℕ) (l : List A) → n ≤ length l → list_all p (take n l) ≡ all_below (λ i. p (get_or l i d)) n
 unfolding all_below
-all_taken p zero l h = refl
-all_taken p (suc n) [] h = absurd (omega arith)
-all_taken p (suc n) (x ∷ l) h =
-    ap (λ (b : Bool). p x && b) (all_taken p n l (omega arith)) ∙ sym (all_shift (λ i. p (get_or (x ∷ l) i 0)) n)
+all_taken p d zero l h = refl
+all_taken p d (suc n) [] h = absurd (omega arith)
+all_taken p d (suc n) (x ∷ l) h =
+    ap (λ (b : Bool). p x && b) (all_taken p d n l (omega arith)) ∙ sym (all_shift (λ i. p (get_or (x ∷ l) i d)) n)
 
 -- ---- any
 

@@ -14,14 +14,12 @@ use site::{SITES, Site};
 fn logged_set(log: Record) -> Set
     ensures { result ≡ set_of (contains log) }
 {
-    let count = log.count;
     let mut logged = Set::empty();
-    for i in 0..POSTINGS {
-        if count <= i {
+    for (i, number) in log.numbers.iter().enumerate() {
+        if log.count <= i {
             return logged;
         }
-        let m = log.numbers[i] as usize;
-        logged = logged.with(m);
+        logged = logged.with(usize::from(*number));
     }
     logged
 }
@@ -31,16 +29,11 @@ fn finished_set(table: Table, sites: [Site; SITES]) -> Set
     ensures { result ≡ finished_set table sites }
 {
     let mut done = Set::empty();
-    for m in 0..POSTINGS {
-        let p = table.rows[m];
-        let owner = p.owner as usize;
-        if SITES <= owner {
-            continue;
+    for (m, p) in table.rows.iter().enumerate() {
+        let owner = usize::from(p.owner);
+        if owner < SITES {
+            done = done.with_if(m, sites[owner].finished.has(m));
         }
-        let s = sites[owner];
-        let finished = s.finished;
-        let so = finished.has(m);
-        done = done.with_if(m, so);
     }
     done
 }
@@ -49,35 +42,16 @@ fn finished_set(table: Table, sites: [Site; SITES]) -> Set
 fn entry_ok(pooled: bool, logged: bool, finished: bool, within: bool) -> bool
     ensures { result ≡ entry_sound pooled logged finished within }
 {
-    if pooled {
-        if logged {
-            return false;
-        }
-        if finished {
-            return within;
-        }
-        return false;
-    }
-    if logged {
-        if finished {
-            return within;
-        }
-        return false;
-    }
-    true
+    !(pooled || logged) || (!(pooled && logged) && finished && within)
 }
 
 // The entries of all postings, by number.
 fn entries_ok(pool: Set, logged: Set, finished: Set, entries: [Set; POSTINGS], all: Set) -> bool
     ensures { result ≡ entries_sound pool logged finished entries all }
 {
-    for m in 0..POSTINGS {
-        let entry = entries[m];
-        let pooled = pool.has(m);
-        let in_log = logged.has(m);
-        let done = finished.has(m);
+    for (m, entry) in entries.iter().enumerate() {
         let within = entry.subset(all);
-        if entry_ok(pooled, in_log, done, within) == false {
+        if !entry_ok(pool.has(m), logged.has(m), finished.has(m), within) {
             return false;
         }
     }
@@ -95,13 +69,13 @@ pub fn pool_ok(
 ) -> bool
     ensures { result ≡ pool_sound table sites all pool entries log }
 {
-    if pool.subset(all) == false {
-        return false;
-    }
-    if record_ok(table.count, log) == false {
-        return false;
-    }
-    let logged = logged_set(log);
-    let finished = finished_set(table, sites);
-    entries_ok(pool, logged, finished, entries, all)
+    pool.subset(all)
+        && record_ok(table.count, log)
+        && entries_ok(
+            pool,
+            logged_set(log),
+            finished_set(table, sites),
+            entries,
+            all,
+        )
 }

@@ -12,22 +12,15 @@ use site::{SITES, Site, Tally};
 fn mask_ok(n: u8, count: usize, m: usize, mask: u8) -> bool
     ensures { result ≡ mask_sound n count m mask }
 {
-    if mask == 0 {
-        return true;
-    }
-    if posting::offered_by(count, m) {
-        return sites_below(n, mask);
-    }
-    false
+    mask == 0 || (posting::offered_by(count, m) && sites_below(n, mask))
 }
 
 // The masks of all postings, by number.
 fn masks_ok(n: u8, count: usize, masks: &[u8; POSTINGS]) -> bool
     ensures { result ≡ masks_sound n count masks.now }
 {
-    for m in 0..POSTINGS {
-        let mask = masks[m];
-        if mask_ok(n, count, m, mask) == false {
+    for (m, mask) in masks.iter().enumerate() {
+        if !mask_ok(n, count, m, *mask) {
             return false;
         }
     }
@@ -38,14 +31,13 @@ fn masks_ok(n: u8, count: usize, masks: &[u8; POSTINGS]) -> bool
 pub fn record_ok(count: usize, postings: Record) -> bool
     ensures { result ≡ record_sound count postings }
 {
-    let length = postings.count;
-    if POSTINGS < length {
+    if POSTINGS < postings.count {
         return false;
     }
     let mut met = Set::empty();
-    for i in 0..length {
-        let m = postings.numbers[i] as usize;
-        if posting::offered_by(count, m) == false {
+    for number in &postings.numbers[..postings.count] {
+        let m = usize::from(*number);
+        if !posting::offered_by(count, m) {
             return false;
         }
         if met.has(m) {
@@ -60,44 +52,22 @@ pub fn record_ok(count: usize, postings: Record) -> bool
 fn sets_ok(all: Set, s: Site) -> bool
     ensures { result ≡ sets_sound all s }
 {
-    let seen = s.seen;
-    if seen.subset(all) == false {
-        return false;
-    }
-    let held = s.held;
-    if held.subset(all) == false {
-        return false;
-    }
-    let stepped = s.stepped;
-    if stepped.subset(all) == false {
-        return false;
-    }
-    let finished = s.finished;
-    if finished.subset(all) == false {
-        return false;
-    }
-    let got = s.got;
-    got.subset(all)
+    s.seen.subset(all)
+        && s.held.subset(all)
+        && s.stepped.subset(all)
+        && s.finished.subset(all)
+        && s.got.subset(all)
 }
 
 // What belongs to a site; its log place is not past the log.
 fn site_ok(n: u8, count: usize, logged: usize, all: Set, s: Site) -> bool
     ensures { result ≡ site_sound n count logged all s }
 {
-    if sets_ok(all, s) == false {
-        return false;
-    }
-    if masks_ok(n, count, &s.heard) == false {
-        return false;
-    }
-    if masks_ok(n, count, &s.good) == false {
-        return false;
-    }
-    let delivered = s.delivered;
-    if record_ok(count, delivered) == false {
-        return false;
-    }
-    s.place <= logged
+    sets_ok(all, s)
+        && masks_ok(n, count, &s.heard)
+        && masks_ok(n, count, &s.good)
+        && record_ok(count, s.delivered)
+        && s.place <= logged
 }
 
 // The first n sites.
@@ -105,43 +75,26 @@ pub fn sites_ok(n: u8, count: usize, logged: usize, all: Set, sites: [Site; SITE
     requires { n ≤ 7 }
     ensures { result ≡ sites_sound n count logged all sites }
 {
-    let end = n as usize;
-    for p in 0..end {
-        let s = sites[p];
-        if site_ok(n, count, logged, all, s) == false {
-            return false;
-        }
-    }
-    true
+    sites[..usize::from(n)]
+        .iter()
+        .all(|s| site_ok(n, count, logged, all, *s))
 }
 
 // The tally of posting m.
 fn tally_ok(n: u8, count: usize, all: Set, m: usize, t: Tally) -> bool
     ensures { result ≡ tally_sound n count all m t }
 {
-    if mask_ok(n, count, m, t.heard) == false {
-        return false;
-    }
-    if mask_ok(n, count, m, t.has) == false {
-        return false;
-    }
-    let union = t.union;
-    if union.is_empty() {
-        return true;
-    }
-    if posting::offered_by(count, m) {
-        return union.subset(all);
-    }
-    false
+    mask_ok(n, count, m, t.heard)
+        && mask_ok(n, count, m, t.has)
+        && (t.union.is_empty() || (posting::offered_by(count, m) && t.union.subset(all)))
 }
 
 // The tallies of all postings, by number.
 pub fn tallies_ok(n: u8, count: usize, all: Set, tallies: [Tally; POSTINGS]) -> bool
     ensures { result ≡ tallies_sound n count all tallies }
 {
-    for m in 0..POSTINGS {
-        let t = tallies[m];
-        if tally_ok(n, count, all, m, t) == false {
+    for (m, t) in tallies.iter().enumerate() {
+        if !tally_ok(n, count, all, m, *t) {
             return false;
         }
     }

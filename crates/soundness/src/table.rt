@@ -10,27 +10,14 @@ use sets::{POSTINGS, Set};
 fn row_ok(n: u8, p: Posting) -> bool
     ensures { result ≡ row_sound n p }
 {
-    if n <= p.owner {
-        return false;
-    }
-    p.fields_ok()
+    p.owner < n && p.fields_ok()
 }
 
 // No more rows than the capacity, all of which pass.
 pub fn table_ok(n: u8, table: Table) -> bool
     ensures { result ≡ table_sound n table }
 {
-    let count = table.count;
-    if POSTINGS < count {
-        return false;
-    }
-    for m in 0..count {
-        let p = table.rows[m];
-        if row_ok(n, p) == false {
-            return false;
-        }
-    }
-    true
+    table.count <= POSTINGS && table.rows[..table.count].iter().all(|p| row_ok(n, *p))
 }
 
 // The postings offered, as a set.
@@ -39,8 +26,7 @@ pub fn offered_set(count: usize) -> Set
 {
     let mut all = Set::empty();
     for x in 0..POSTINGS {
-        let so = posting::offered_by(count, x);
-        all = all.with_if(x, so);
+        all = all.with_if(x, posting::offered_by(count, x));
     }
     all
 }

@@ -1,8 +1,7 @@
 -- `cells_ok` meets its contract. The loop's invariant: the cells of the first j blocks pass.
 -- Assumes nothing.
-use Prim.Native.Nat.{◌+◌, ◌*◌, ◌-◌}
+use Prim.Native.Nat.{◌+◌, ◌*◌}
 use mathlib.Core.Path.{◌≡◌, sym, ap, ◌∙◌}
-use mathlib.Core.Bool.{true}
 use native.Mathlib.Omega.{arith}
 use borrow.Author.Rules.{rules}
 use Rattle.sets.specs.Below.{all_below}
@@ -10,7 +9,6 @@ use Rattle.flight.specs.Flights.{cells}
 use Rattle.cells.specs.Cells.{cell_sound_at, block, cells_sound}
 use Rattle.sets.proofs.BelowLaws.{all_none, all_end}
 use Rattle.cells.proofs.Blocks.{block_empty, block_more, block_fails}
-use Rattle.sets.proofs.Truth.{passed, failed}
 use Rattle.cells.proofs.cells_ok.Goals as goal
 
 pub loop-j-init : goal.loop-j-init
@@ -26,11 +24,11 @@ loop-j-preserved-then-receivers-eq0 c =
           ∙ block_more args.n args.table args.all args.carried.now args.masks.now (block * at.j) at.invariant.1 (block_empty args.n args.table args.all args.carried.now args.masks.now (block * at.j) (sym c.receivers.ensures ∙ c.if-receivers-eq0.true)),
     )
 
-pub returns-then-block_ok-eqfalse : goal.returns-then-block_ok-eqfalse
-returns-then-block_ok-eqfalse c =
+pub returns-then-not-block_ok : goal.returns-then-not-block_ok
+returns-then-not-block_ok c =
     let at = c.loop-j in
     let args = c.args in
-    sym (block_fails args.n args.table args.all args.carried.now args.masks.now (block * at.j) (search rules) (failed c.block_ok.ensures c.if-block_ok-eqfalse.true))
+    sym (block_fails args.n args.table args.all args.carried.now args.masks.now (block * at.j) (search rules) (sym c.block_ok.ensures ∙ c.if-not-block_ok.true))
 
 pub loop-j-preserved : goal.loop-j-preserved
 loop-j-preserved c =
@@ -39,7 +37,7 @@ loop-j-preserved c =
     let next : block * at.j + block ≡ block * (at.j + 1) = omega arith in (
       search rules,
       ap (all_below (cell_sound_at args.n args.table args.all args.carried.now args.masks.now)) (sym next)
-          ∙ block_more args.n args.table args.all args.carried.now args.masks.now (block * at.j) at.invariant.1 (passed c.block_ok.ensures c.if-block_ok-eqfalse.false),
+          ∙ block_more args.n args.table args.all args.carried.now args.masks.now (block * at.j) at.invariant.1 (sym c.block_ok.ensures ∙ c.if-not-block_ok.false),
     )
 
 pub returns : goal.returns

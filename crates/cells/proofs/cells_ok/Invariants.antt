@@ -1,6 +1,6 @@
 -- `cells_ok` meets its contract. The loop's invariant: the cells of the first j blocks pass.
 -- Assumes nothing.
-use Prim.Native.Nat.{◌*◌, ◌≤◌, ◌-◌}
+use Prim.Native.Nat.{◌*◌, ◌≤◌}
 use mathlib.Core.Path.{◌≡◌}
 use mathlib.Core.Bool.{true}
 use Rattle.sets.specs.Below.{all_below}

@@ -20,7 +20,7 @@ returns-then-delivered-le-POSTINGS c =
     let long : length r.numbers ≡ capacity = search rules in
     let test = λ (m : ℕ). ltb m c.args.n in
     rw (le-leb r.count capacity (search rules))
-    (all_from_yields_List test c.all.new.self _ _ c.all.ensures.ran (YieldsList-from_slice (take r.count r.numbers) (cc)) (λ x b q k. search (rules, tests)) ∙ all_taken test r.count r.numbers (omega arith))
+    (all_from_yields_List test c.all.new.self _ _ c.all.ensures.ran (YieldsList-from_slice (take r.count r.numbers) (cc)) (λ x b q k. search (rules, tests)) ∙ all_taken test 0 r.count r.numbers (omega arith))
 
 pub returns-else-delivered-le-POSTINGS : goal.returns-else-delivered-le-POSTINGS
 unfolding record_ok

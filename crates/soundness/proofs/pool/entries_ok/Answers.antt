@@ -1,14 +1,11 @@
 -- `entries_ok` meets its contract. The loop's invariant: the first m postings pass.
 -- Assumes nothing.
-use Prim.Native.Nat.{◌-◌}
 use mathlib.Core.Path.{◌≡◌, sym, ◌∙◌}
-use mathlib.Core.Bool.{true}
 use native.Mathlib.Omega.{arith}
 use borrow.Author.Rules.{rules}
 use Rattle.sets.proofs.BelowLaws.{all_fails, all_none, all_more, all_end}
 use Rattle.sets.specs.Sets.{capacity}
 use Rattle.soundness.specs.Parts.{entries_sound}
-use Rattle.sets.proofs.Truth.{passed, failed}
 use Rattle.soundness.proofs.pool.entries_ok.Invariants.{passes}
 use Rattle.soundness.proofs.pool.entries_ok.Goals as goal
 use Rattle.soundness.proofs.pool.entries_ok.Goals.{After-entry_ok}
@@ -19,31 +16,31 @@ tested : (c : After-entry_ok)
 tested c =
     c.entry_ok.ensures
     ∙ rw (
-      c.has-pooled.ensures,
-      c.has-in_log.ensures,
-      c.has-done.ensures,
+      c.has.ensures,
+      c.has-in-loop-m.ensures,
+      c.has-in-loop-m-2.ensures,
       c.subset-within.ensures,
     )
 
 pub loop-m-init : goal.loop-m-init
-loop-m-init c = let args = c.args in (search rules, all_none (passes args.pool args.logged args.finished args.entries args.all))
+loop-m-init c = let args = c.args in all_none (passes args.pool args.logged args.finished args.entries args.all)
 
-pub returns-then-entry_ok-eqfalse : goal.returns-then-entry_ok-eqfalse
+pub returns-then-not-entry_ok : goal.returns-then-not-entry_ok
 unfolding entries_sound
-returns-then-entry_ok-eqfalse c =
+returns-then-not-entry_ok c =
     let at = c.loop-m in
     let args = c.args in
-    sym (all_fails (passes args.pool args.logged args.finished args.entries args.all) capacity at.m (search rules) (failed (tested (goal.at.returns-then-entry_ok-eqfalse c).After-entry_ok) c.if-entry_ok-eqfalse.true))
+    sym (all_fails (passes args.pool args.logged args.finished args.entries args.all) capacity at.m (search rules) (sym (tested (goal.at.returns-then-not-entry_ok c).After-entry_ok) ∙ c.if-not-entry_ok.true))
 
 pub loop-m-preserved : goal.loop-m-preserved
 loop-m-preserved c =
     let at = c.loop-m in
     let args = c.args in
-    (search rules, all_more (passes args.pool args.logged args.finished args.entries args.all) at.m at.invariant.1 (passed (tested (goal.at.loop-m-preserved c).After-entry_ok) c.if-entry_ok-eqfalse.false))
+    all_more (passes args.pool args.logged args.finished args.entries args.all) at.m at.invariant (sym (tested (goal.at.loop-m-preserved c).After-entry_ok) ∙ c.if-not-entry_ok.false)
 
 pub returns : goal.returns
 unfolding entries_sound
 returns c =
     let at = c.loop-m in
     let args = c.args in
-    sym (all_end (passes args.pool args.logged args.finished args.entries args.all) capacity at.m (omega arith) at.invariant.1)
+    sym (all_end (passes args.pool args.logged args.finished args.entries args.all) capacity at.m (omega arith) at.invariant)

@@ -1,6 +1,6 @@
 -- `finished_set` meets its contract. The loop's invariant: the set is that of the numbers below m that their owners have finished.
 -- Assumes nothing.
-use Prim.Native.Nat.{ℕ, ◌≤◌, ◌-◌}
+use Prim.Native.Nat.{ℕ, ◌≤◌}
 use mathlib.Core.Path.{◌≡◌, ap, ◌∙◌}
 use native.Mathlib.Omega.{arith}
 use native.Mathlib.Numerals.{add-one}
@@ -15,23 +15,24 @@ use Rattle.soundness.specs.Parts.{finished_set}
 use Rattle.soundness.proofs.Turns.{no_owner}
 use Rattle.soundness.proofs.pool.finished_set.Invariants.{byOwner}
 use Rattle.soundness.proofs.pool.finished_set.Goals as goal
+use Rattle.soundness.proofs.pool.finished_set.Goals.{then-owner-lt-SITES, else-owner-lt-SITES}
 
 pub loop-m-init : goal.loop-m-init
 unfolding collect
-loop-m-init c = (search rules, c.empty-done.ensures)
+loop-m-init c = c.empty-done.ensures
 
-pub loop-m-preserved-then-owner-ge-SITES : goal.loop-m-preserved-then-owner-ge-SITES
+pub loop-m-preserved : goal.loop-m-preserved
 unfolding collect insert_if row
-loop-m-preserved-then-owner-ge-SITES c =
+loop-m-preserved c =
     let at = c.loop-m in
     let args = c.args in
     let long : length args.sites ≡ sites = search rules in
-    let past : length args.sites ≤ owner_of args.table at.m = omega arith in
-    (search rules, at.invariant.1 ∙ rw (add-one, no_owner args.table args.sites at.m past))
-
-pub loop-m-preserved : goal.loop-m-preserved
-unfolding collect row
-loop-m-preserved c = (search rules, rw (add-one, c.with_if-done.ensures, c.has-so.ensures, c.loop-m.invariant.1))
+    elim c.if-owner-lt-SITES.branch [
+      | then-owner-lt-SITES w ↦ rw (add-one, w.done-is, w.with_if-done.ensures, w.has.ensures, c.from-owner.ensures, at.invariant)
+      | else-owner-lt-SITES w ↦
+          let past : length args.sites ≤ owner_of args.table at.m = omega (arith, w.if-owner-lt-SITES.false, c.from-owner.ensures) in
+          w.done-is ∙ at.invariant ∙ rw (add-one, no_owner args.table args.sites at.m past)
+    ]
 
 pub returns : goal.returns
 unfolding finished_set
@@ -39,4 +40,4 @@ returns c =
     let at = c.loop-m in
     let args = c.args in
     let end : at.m ≡ capacity = omega arith in
-    at.invariant.1 ∙ ap (λ (n : ℕ). of_words (collect words (byOwner args.table args.sites) n)) end
+    at.invariant ∙ ap (λ (n : ℕ). of_words (collect words (byOwner args.table args.sites) n)) end

@@ -1,35 +1,21 @@
--- `sites_ok` meets its contract. The loop's invariant: the first p sites pass.
+-- `sites_ok` meets its contract.
 -- Assumes nothing.
-use Prim.Native.Nat.{◌-◌}
-use mathlib.Core.Path.{sym}
-use mathlib.Core.Bool.{true}
-use native.Mathlib.Omega.{arith}
-use borrow.Author.Rules.{rules}
-use Rattle.sets.proofs.BelowLaws.{all_fails, all_none, all_more, all_end}
-use Rattle.soundness.specs.Parts.{sites_sound}
-use Rattle.sets.proofs.Truth.{passed, failed}
-use Rattle.soundness.proofs.sites.sites_ok.Invariants.{passes}
+use Rattle.std.proofs.Common.{rules, tests, arith}
+use mathlib.Core.Path.{◌≡◌, ◌∙◌}
+use lib.ListN.{length, take}
+use Rattle.std.proofs.lemmas.Iterator.{YieldsList-from_slice}
+use Rattle.std.proofs.lemmas.Iterator.Search.{all_from_yields_List}
+use Rattle.sets.proofs.BelowLaws.{all_taken}
+use Rattle.site.specs.declared.Site.{Site}
+use Rattle.site.specs.Sites.{sites, no_site}
+use Rattle.soundness.specs.Parts.{site_sound, sites_sound}
 use Rattle.soundness.proofs.sites.sites_ok.Goals as goal
-
-pub loop-p-init : goal.loop-p-init
-loop-p-init c = let args = c.args in (search rules, all_none (passes args.n args.count args.logged args.all args.sites))
-
-pub returns-then-site_ok-eqfalse : goal.returns-then-site_ok-eqfalse
-unfolding sites_sound
-returns-then-site_ok-eqfalse c =
-    let at = c.loop-p in
-    let args = c.args in
-    sym (all_fails (passes args.n args.count args.logged args.all args.sites) args.n at.p (search rules) (failed c.site_ok.ensures c.if-site_ok-eqfalse.true))
-
-pub loop-p-preserved : goal.loop-p-preserved
-loop-p-preserved c =
-    let at = c.loop-p in
-    let args = c.args in
-    (search rules, all_more (passes args.n args.count args.logged args.all args.sites) at.p at.invariant.1 (passed c.site_ok.ensures c.if-site_ok-eqfalse.false))
 
 pub returns : goal.returns
 unfolding sites_sound
 returns c =
-    let at = c.loop-p in
     let args = c.args in
-    sym (all_end (passes args.n args.count args.logged args.all args.sites) args.n at.p (omega arith) at.invariant.1)
+    let long : length args.sites ≡ sites = search rules in
+    let test = λ (s : Site). site_sound args.n args.count args.logged args.all s in
+    all_from_yields_List test c.all.new.self _ _ c.all.ensures.ran (YieldsList-from_slice (take args.n args.sites) (search rules)) (λ x b q k. search (rules, tests))
+    ∙ all_taken test no_site args.n args.sites (omega arith)

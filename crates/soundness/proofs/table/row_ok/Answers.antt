@@ -1,13 +1,13 @@
 -- `row_ok` meets its contract.
 -- Assumes nothing.
-use borrow.Author.Tests.{lt-ltb, le-ltb}
+use Rattle.std.proofs.Common.{rules, tests}
 use Rattle.soundness.specs.Parts.{row_sound}
 use Rattle.soundness.proofs.table.row_ok.Goals as goal
 
-pub returns-then-n-p : goal.returns-then-n-p
+pub returns-then-p-n : goal.returns-then-p-n
 unfolding row_sound
-returns-then-n-p c = rw (le-ltb _ _ c.if-n-p.true)
+returns-then-p-n c = search (tests, rules)
 
-pub returns : goal.returns
+pub returns-else-p-n : goal.returns-else-p-n
 unfolding row_sound
-returns c = rw (lt-ltb _ _ c.if-n-p.false, c.fields_ok.ensures)
+returns-else-p-n c = search (tests, rules)

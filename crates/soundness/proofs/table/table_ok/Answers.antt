@@ -1,45 +1,27 @@
--- `table_ok` meets its contract. The loop's invariant: the first m rows pass.
+-- `table_ok` meets its contract.
 -- Assumes nothing.
-use Prim.Native.Nat.{◌-◌}
-use mathlib.Core.Path.{sym}
-use mathlib.Core.Bool.{true}
-use native.Mathlib.Omega.{arith}
-use borrow.Author.Rules.{rules}
-use borrow.Author.Tests.{le-leb, lt-leb}
-use Rattle.sets.proofs.BelowLaws.{all_fails, all_none, all_more, all_end}
+use Rattle.std.proofs.Common.{rules, tests, arith}
+use mathlib.Core.Path.{◌≡◌, ◌∙◌}
+use lib.ListN.{length, take}
+use borrow.Author.Tests.{le-leb}
+use Rattle.std.proofs.lemmas.Iterator.{YieldsList-from_slice}
+use Rattle.std.proofs.lemmas.Iterator.Search.{all_from_yields_List}
 use Rattle.sets.specs.Sets.{capacity}
-use Rattle.posting.specs.Conflicts.{row}
-use Rattle.soundness.specs.Parts.{table_sound}
-use Rattle.sets.proofs.Truth.{passed, failed}
-use Rattle.soundness.proofs.table.table_ok.Invariants.{passes}
+use Rattle.sets.proofs.BelowLaws.{all_taken}
+use Rattle.posting.specs.declared.Posting.{Posting}
+use Rattle.posting.specs.Conflicts.{row, no_posting}
+use Rattle.soundness.specs.Parts.{row_sound, table_sound}
 use Rattle.soundness.proofs.table.table_ok.Goals as goal
 
-pub returns-then-count-gt-POSTINGS : goal.returns-then-count-gt-POSTINGS
-unfolding table_sound
-returns-then-count-gt-POSTINGS c = rw (lt-leb c.args.table.count capacity c.if-count-gt-POSTINGS.true)
-
-pub loop-m-init : goal.loop-m-init
-loop-m-init c = (search rules, all_none (passes c.args.n c.args.table))
-
-pub returns-then-row_ok-eqfalse : goal.returns-then-row_ok-eqfalse
+pub returns-then-table-le-POSTINGS : goal.returns-then-table-le-POSTINGS
 unfolding table_sound row
-returns-then-row_ok-eqfalse c =
-    let at = c.loop-m in
-    let args = c.args in
-    rw (le-leb args.table.count capacity c.if-count-gt-POSTINGS.false)
-    (sym (all_fails (passes args.n args.table) args.table.count at.m (search rules) (failed c.row_ok.ensures c.if-row_ok-eqfalse.true)))
+returns-then-table-le-POSTINGS c =
+    let t = c.args.table in
+    let long : length t.rows ≡ capacity = search rules in
+    let test = λ (p : Posting). row_sound c.args.n p in
+    rw (le-leb t.count capacity c.if-table-le-POSTINGS.true)
+    (all_from_yields_List test c.all.new.self _ _ c.all.ensures.ran (YieldsList-from_slice (take t.count t.rows) (cc)) (λ x b q k. search (rules, tests)) ∙ all_taken test no_posting t.count t.rows (omega (arith, c.if-table-le-POSTINGS.true)))
 
-pub loop-m-preserved : goal.loop-m-preserved
-unfolding row
-loop-m-preserved c =
-    let at = c.loop-m in
-    let args = c.args in
-    (search rules, all_more (passes args.n args.table) at.m at.invariant.1 (passed c.row_ok.ensures c.if-row_ok-eqfalse.false))
-
-pub returns : goal.returns
+pub returns-else-table-le-POSTINGS : goal.returns-else-table-le-POSTINGS
 unfolding table_sound
-returns c =
-    let at = c.loop-m in
-    let args = c.args in
-    rw (le-leb args.table.count capacity c.if-count-gt-POSTINGS.false)
-    (sym (all_end (passes args.n args.table) args.table.count at.m (omega arith) at.invariant.1))
+returns-else-table-le-POSTINGS c = search (tests, rules)
