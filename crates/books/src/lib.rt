@@ -181,7 +181,10 @@ pub fn put(s: Figures, at: usize, out: &mut [i64])
     requires { at + 4 ≤ length out.old }
     ensures { out.new ≡ take at out.old ++ four s ++ drop (at + 4) out.old }
 {
-    out[at..at + 4].copy_from_slice(&[s.position, s.rate, s.called, s.settled]);
+    out[at] = s.position;
+    out[at + 1] = s.rate;
+    out[at + 2] = s.called;
+    out[at + 3] = s.settled;
 }
 
 // The first 64 numbers of the slice become the sheet's.
