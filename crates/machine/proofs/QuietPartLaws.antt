@@ -25,7 +25,7 @@ use Rattle.flight.proofs.SearchLaws.{all_cells}
 use Rattle.machine.specs.declared.Board.{Board}
 use Rattle.machine.specs.Boards.{site_at, is_down}
 use Rattle.machine.specs.Runs.{up_mask, is_quiet}
-use Rattle.machine.specs.QuietParts.{up_byte, place_in, has_read, all_read_lem, PlacesOf, quiet_by}
+use Rattle.machine.specs.QuietParts.{up_byte, place_in, has_read, all_have_read, PlacesOf, quiet_by}
 
 -- ---- the sites that are up, as a byte
 
@@ -64,8 +64,8 @@ comes_low (mask ∷ l) up small =
 -- ---- quiet, by its parts
 
 module _ (b : Board) (counts : List ℕ) (at : PlacesOf b counts) where
-  read_parts : all_below (λ p. is_down b p || leb b.log.count (site_at b p).place) b.setup.n ≡ all_read_lem b.setup.n b.down counts
-  unfolding all_read_lem
+  read_parts : all_below (λ p. is_down b p || leb b.log.count (site_at b p).place) b.setup.n ≡ all_have_read b.setup.n b.down counts
+  unfolding all_have_read
   read_parts =
       all_ext (λ p. is_down b p || leb b.log.count (site_at b p).place) (has_read b.down counts) b.setup.n
       (λ p h. ap₂ (λ (l q : ℕ). is_down b p || leb l q) at.logged (at.places p))
@@ -85,8 +85,8 @@ module _ (b : Board) (counts : List ℕ) (at : PlacesOf b counts) where
 -- ---- what was read
 
 -- nothing was logged
-pub read_none : (n down : ℕ) (counts : List ℕ) → get_or counts logged_at 0 ≡ 0 → all_read_lem n down counts ≡ true
-unfolding all_read_lem
+pub read_none : (n down : ℕ) (counts : List ℕ) → get_or counts logged_at 0 ≡ 0 → all_have_read n down counts ≡ true
+unfolding all_have_read
 read_none n down counts e =
     all_from (has_read down counts) n (λ p h. or_right (has_bit down p) _ (le-leb (get_or counts logged_at 0) (place_in counts p) (omega arith)))
 

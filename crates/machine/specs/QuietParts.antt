@@ -25,8 +25,8 @@ place_in counts p = cond (ltb p sites) (get_or counts (place_at p) 0) 0
 abbrev pub has_read : ℕ → List ℕ → ℕ → Bool
 has_read down counts p = has_bit down p || leb (get_or counts logged_at 0) (place_in counts p)
 
-unfoldable pub all_read_lem : ℕ → ℕ → List ℕ → Bool
-all_read_lem n down counts = all_below (has_read down counts) n
+unfoldable pub all_have_read : ℕ → ℕ → List ℕ → Bool
+all_have_read n down counts = all_below (has_read down counts) n
 
 -- the counts are those of a board: its sites' places, and how many entries its log has
 pub record PlacesOf (b : Board) (counts : List ℕ) : Type 0 where
@@ -36,4 +36,4 @@ pub record PlacesOf (b : Board) (counts : List ℕ) : Type 0 where
 -- ---- quiet, by its parts
 
 abbrev pub quiet_by : List ℕ → ℕ → ℕ → Set → List ℕ → Bool
-quiet_by masks n down pool counts = nothing_comes (take cells masks) (up_byte n down) && (is_empty_set pool && all_read_lem n down counts)
+quiet_by masks n down pool counts = nothing_comes (take cells masks) (up_byte n down) && (is_empty_set pool && all_have_read n down counts)

@@ -6,7 +6,7 @@ ghost use Rattle.site.specs.Sites.{sites, no_site};
 ghost use Rattle.arrays.specs.Layout.{logged_at};
 ghost use Rattle.machine.specs.Runs.{is_quiet};
 ghost use Rattle.machine.specs.View.{view};
-ghost use Rattle.machine.specs.QuietParts.{up_byte, place_in, all_read_lem, quiet_by};
+ghost use Rattle.machine.specs.QuietParts.{up_byte, place_in, all_have_read, quiet_by};
 
 use arrays::{Arrays, COUNTS, DOWN, LOGGED, PLACE, POOL, load};
 use flight::MASKS;
@@ -28,7 +28,7 @@ pub fn up_mask(n: u8, down: u8) -> u8
 
 // Every site that is up has read as much as was logged.
 fn all_read(n: u8, down: u8, counts: &[usize; COUNTS]) -> bool
-    ensures { result ≡ all_read_lem n down counts.now }
+    ensures { result ≡ all_have_read n down counts.now }
 {
     let logged = counts[LOGGED];
     if logged == 0 {

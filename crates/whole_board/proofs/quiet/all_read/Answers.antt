@@ -11,7 +11,7 @@ use Rattle.sets.proofs.Truth.{or_left, or_right}
 use Rattle.sets.proofs.BelowLaws.{all_fails, all_none, all_more, all_end}
 use Rattle.site.specs.Sites.{sites}
 use Rattle.arrays.specs.Layout.{logged_at}
-use Rattle.machine.specs.QuietParts.{place_in, has_read, all_read_lem}
+use Rattle.machine.specs.QuietParts.{place_in, has_read, all_have_read}
 use Rattle.machine.proofs.QuietPartLaws.{read_none, behind}
 use borrow.Author.Rules.{rules}
 use Rattle.whole_board.proofs.quiet.all_read.Goals as goal
@@ -32,7 +32,7 @@ loop-p-preserved-then-has_site c =
     )
 
 pub returns-then-i-ge-SITES : goal.returns-then-i-ge-SITES
-unfolding all_read_lem
+unfolding all_have_read
 returns-then-i-ge-SITES c =
     let at = c.loop-p in
     let args = c.args in
@@ -41,7 +41,7 @@ returns-then-i-ge-SITES c =
     (behind args.down args.counts.now at.p (sym c.has_site.ensures ∙ c.if-has_site.false) (rw (le-ltb at.p sites c.if-i-ge-SITES.true) some)))
 
 pub returns-then-counts-i : goal.returns-then-counts-i
-unfolding all_read_lem
+unfolding all_have_read
 returns-then-counts-i c =
     let at = c.loop-p in
     let args = c.args in
@@ -58,7 +58,7 @@ loop-p-preserved c =
     )
 
 pub returns : goal.returns
-unfolding all_read_lem
+unfolding all_have_read
 returns c =
     let at = c.loop-p in
     let args = c.args in
