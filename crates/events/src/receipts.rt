@@ -26,7 +26,10 @@ pub fn receive(
     ensures { flat (answer_number result) board.new ≡ flat_receive setup board.old form receipt.posting receipt.from receipt.to receipt.cut }
 {
     let Receipt {
-        posting, from, to, ..
+        posting,
+        from,
+        to,
+        ..
     } = receipt;
     message_arrives(setup.n, board.bytes[DOWN], from, to)?;
     if !is_sent(&board.masks, form, posting, from, to) {

@@ -35,12 +35,7 @@ pub struct LookedUp {
 }
 
 // If site p is named, a pass through its record, whose books fill the 64 numbers of the figures from 64p on; how many places were visited.
-fn gather_site(
-    board: &Arrays,
-    named: u8,
-    p: u8,
-    figures: &mut [i64],
-) -> usize
+fn gather_site(board: &Arrays, named: u8, p: u8, figures: &mut [i64]) -> usize
     requires { (p < sites) × Postable (table_of board.now) (record_in board.now p) × (length figures.old ≡ 64 * sites) }
     ensures value { result ≡ cond (has_bit named p) (places_at board.now p) 0 }
     ensures figures_after { figures.new ≡ cond (has_bit named p) (with_block figures.old p (numbers_at board.now p)) figures.old }
@@ -56,12 +51,7 @@ fn gather_site(
 }
 
 // The books of those of the first n sites that are named, each in its 64 numbers of the figures; how many places were visited.
-fn gather(
-    board: &Arrays,
-    named: u8,
-    n: u8,
-    figures: &mut [i64],
-) -> usize
+fn gather(board: &Arrays, named: u8, n: u8, figures: &mut [i64]) -> usize
     requires { (n ≤ sites) × ((p : ℕ) → p < n → Postable (table_of board.now) (record_in board.now p)) × (length figures.old ≡ 64 * sites) }
     ensures value { result ≡ visited_to n (has_bit named) (places_at board.now) }
     ensures gathered { Gathered (numbers_at board.now) named n figures.new }
@@ -75,12 +65,7 @@ fn gather(
 }
 
 // A look-up on a sound board at work: its table and the records of the sites named are all that it needs.
-pub fn look_up_at(
-    board: &Arrays,
-    setup: Setup,
-    pairs: &[u8],
-    out: &mut [i64],
-) -> LookedUp
+pub fn look_up_at(board: &Arrays, setup: Setup, pairs: &[u8], out: &mut [i64]) -> LookedUp
     requires { (setup.n ≤ sites) × ((p : ℕ) → p < setup.n → Postable (table_of board.now) (record_in board.now p)) }
     ensures { is_sound (view setup board.now) ≡ true → (result.answer ≡ (looking_up (view setup board.now) pairs.now out.old).answer) × (result.visited ≡ (looking_up (view setup board.now) pairs.now out.old).visited) × (out.new ≡ (looking_up (view setup board.now) pairs.now out.old).slice) }
 {

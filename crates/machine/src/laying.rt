@@ -19,12 +19,11 @@ pub fn lay_out(board: Board) -> Arrays
         table,
         sites,
         tallies,
-        flight:
-            Flight {
-                masks,
-                good,
-                carried,
-            },
+        flight: Flight {
+            masks,
+            good,
+            carried,
+        },
         pool,
         entries,
         log,
@@ -33,7 +32,14 @@ pub fn lay_out(board: Board) -> Arrays
     let mut arrays = Arrays::empty();
     lay_sets(&mut arrays.sets, table, sites, tallies, pool, entries);
     lay_counts(&mut arrays.counts, table.count, log.count, sites);
-    lay_bytes(&mut arrays.bytes, down, table.rows, sites, tallies, log.numbers);
+    lay_bytes(
+        &mut arrays.bytes,
+        down,
+        table.rows,
+        sites,
+        tallies,
+        log.numbers,
+    );
     lay_amounts(&mut arrays.amounts, table.rows);
     arrays.masks = masks;
     arrays.good = good;

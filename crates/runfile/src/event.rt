@@ -37,12 +37,7 @@ fn perform_event(board: &mut Arrays, setup: Setup, event: &[u8]) -> Result<(), R
 }
 
 // Event k of a file; past the last one, a crash of site 0.
-pub fn perform_at(
-    board: &mut Arrays,
-    setup: Setup,
-    input: &[u8],
-    k: usize,
-) -> Result<(), Refusal>
+pub fn perform_at(board: &mut Arrays, setup: Setup, input: &[u8], k: usize) -> Result<(), Refusal>
     requires { (setup.n ≤ sites) × LogFits board.old.counts board.old.bytes }
     ensures { flat (answer_number result) board.new ≡ flat_perform setup board.old (call_at input.now k) }
 {

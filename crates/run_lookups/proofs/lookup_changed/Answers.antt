@@ -32,10 +32,10 @@ returns-in-Ok c =
     let board = c.changed-board.ensures ∙ ap change c.board_after-left.ensures in
     let e = looked.ensures in
     let shown =
-      gives_as (sym (file_runs g.input.now _ c.in-Ok.ensures (not_looked out) (λ b calls. looked_on pairs out (change (running b calls))) refl))
-      (looked_gives (change (running (fresh_board c.in-Ok.setup) (calls_of g.input.now))) pairs out looked.result.answer looked.result.visited looked.new.out
-      (gives_on looked.result.answer looked.result.visited looked.new.out pairs out board (e.answer_value, e.visited_value, e.out_after))
-      c.answer_of.result c.answer_of.ensures) in
+    gives_as (sym (file_runs g.input.now _ c.in-Ok.ensures (not_looked out) (λ b calls. looked_on pairs out (change (running b calls))) refl))
+    (looked_gives (change (running (fresh_board c.in-Ok.setup) (calls_of g.input.now))) pairs out looked.result.answer looked.result.visited looked.new.out
+    (gives_on looked.result.answer looked.result.visited looked.new.out pairs out board (e.answer_value, e.visited_value, e.out_after))
+    c.answer_of.result c.answer_of.ensures) in
     record { value = shown.0; out_after = shown.1 }
 
 pub returns-in-Err : goal.returns-in-Err

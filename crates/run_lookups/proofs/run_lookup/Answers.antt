@@ -20,9 +20,9 @@ unfolding looked_file
 returns-in-Ok c =
     let g = c.args in
     let shown =
-      gives_as
-      (sym (file_runs g.input.now _ c.in-Ok.ensures (not_looked g.out.now) (λ b calls. looked_on g.pairs.now g.out.now (running b calls)) refl))
-      (c.look_up_after.ensures.value, c.look_up_after.ensures.out_after) in
+    gives_as
+    (sym (file_runs g.input.now _ c.in-Ok.ensures (not_looked g.out.now) (λ b calls. looked_on g.pairs.now g.out.now (running b calls)) refl))
+    (c.look_up_after.ensures.value, c.look_up_after.ensures.out_after) in
     record { value = shown.0; out_after = shown.1 }
 
 pub returns-in-Err : goal.returns-in-Err

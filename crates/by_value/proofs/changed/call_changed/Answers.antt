@@ -21,8 +21,8 @@ returns-in_default c =
     let g = c.args in
     let may = sym c.may_call.ensures ∙ c.if-not-may_call.false in
     let shown =
-      refused_none g.input.now g.place g.value g.event.now g.limit g.figures.now g.board.now _ _ may c.setup_of-setup.ensures
-      c.in_default.ensures (is_refusal c.in_default.field-0) in
+    refused_none g.input.now g.place g.value g.event.now g.limit g.figures.now g.board.now _ _ may c.setup_of-setup.ensures
+    c.in_default.ensures (is_refusal c.in_default.field-0) in
     record { value = shown.0; figures_after = shown.1.0; board_after = shown.1.1 }
 
 pub board_after-left-requires : goal.board_after-left-requires
@@ -47,8 +47,8 @@ returns c =
     let may = sym c.may_call.ensures ∙ c.if-not-may_call.false in
     let before = c.changed-before.ensures ∙ ap (λ (b : Board). changed_at b g.place g.value) c.board_after-left.ensures in
     let same =
-      started_calls g.input.now g.place g.value g.event.now g.limit g.figures.now g.board.now _ _ may c.setup_of-setup.ensures
-      c.in-Ok.ensures _ _ refl before c.request_of-request.ensures in
+    started_calls g.input.now g.place g.value g.event.now g.limit g.figures.now g.board.now _ _ may c.setup_of-setup.ensures
+    c.in-Ok.ensures _ _ refl before c.request_of-request.ensures in
     let handed = c.hand_back.ensures in
     record {
       value = handed.value ∙ ap (λ x. x.number) same;

@@ -12,6 +12,6 @@ unfolding crashing taking
 returns c =
     let g = c.args in
     let shown =
-      responded g.self (crashing g.self g.site) c.respond.result (Done) (λ f. unsound_refused g.self f _ _) (crash_by g.self g.site)
-      c.respond.ensures.unsound c.respond.ensures.sound in
+    responded g.self (crashing g.self g.site) c.respond.result (Done) (λ f. unsound_refused g.self f _ _) (crash_by g.self g.site)
+    c.respond.ensures.unsound c.respond.ensures.sound in
     record { value = shown.0; answer_value = shown.1 }

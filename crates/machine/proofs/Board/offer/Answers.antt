@@ -12,6 +12,6 @@ unfolding offering taking
 returns c =
     let g = c.args in
     let shown =
-      responded g.self (offering g.self g.site g.kind g.account g.other g.amount g.cut) c.respond.result (Offered g.self.table.count) (λ f. unsound_refused g.self f _ _) (offer_by g.self g.site g.kind g.account g.other g.amount g.cut)
-      c.respond.ensures.unsound c.respond.ensures.sound in
+    responded g.self (offering g.self g.site g.kind g.account g.other g.amount g.cut) c.respond.result (Offered g.self.table.count) (λ f. unsound_refused g.self f _ _) (offer_by g.self g.site g.kind g.account g.other g.amount g.cut)
+    c.respond.ensures.unsound c.respond.ensures.sound in
     record { value = shown.0; answer_value = shown.1 }

@@ -12,6 +12,6 @@ unfolding ordering taking
 returns c =
     let g = c.args in
     let shown =
-      responded g.self (ordering g.self g.m) c.respond.result (Done) (λ f. unsound_refused g.self f _ _) (order_by g.self g.m)
-      c.respond.ensures.unsound c.respond.ensures.sound in
+    responded g.self (ordering g.self g.m) c.respond.result (Done) (λ f. unsound_refused g.self f _ _) (order_by g.self g.m)
+    c.respond.ensures.unsound c.respond.ensures.sound in
     record { value = shown.0; answer_value = shown.1 }

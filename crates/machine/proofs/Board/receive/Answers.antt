@@ -12,6 +12,6 @@ unfolding receiving taking
 returns c =
     let g = c.args in
     let shown =
-      responded g.self (receiving g.self g.form g.m g.from g.to g.cut) c.respond.result (Done) (λ f. unsound_refused g.self f _ _) (receive_by g.self g.form g.m g.from g.to g.cut)
-      c.respond.ensures.unsound c.respond.ensures.sound in
+    responded g.self (receiving g.self g.form g.m g.from g.to g.cut) c.respond.result (Done) (λ f. unsound_refused g.self f _ _) (receive_by g.self g.form g.m g.from g.to g.cut)
+    c.respond.ensures.unsound c.respond.ensures.sound in
     record { value = shown.0; answer_value = shown.1 }

@@ -15,8 +15,8 @@ pub returns-in-Ok : goal.returns-in-Ok
 returns-in-Ok c =
     let g = c.args in
     let shown =
-      printed_as g.out.now (taken_printed g.input.now _ c.in-Ok.ensures refl)
-      (c.run_from.ensures.value, (c.run_from.ensures.out_after, c.run_from.ensures.result_value)) in
+    printed_as g.out.now (taken_printed g.input.now _ c.in-Ok.ensures refl)
+    (c.run_from.ensures.value, (c.run_from.ensures.out_after, c.run_from.ensures.result_value)) in
     record { value = shown.0; out_after = shown.1.0; result_value = shown.1.1 }
 
 pub returns-in-Err : goal.returns-in-Err
@@ -24,6 +24,6 @@ returns-in-Err c =
     let g = c.args in
     let line = ap refused_line c.number.ensures in
     let shown =
-      printed_as g.out.now (line ∙ refused_printed g.input.now _ c.in-Err.ensures (is_refusal c.in-Err.refusal))
-      (c.print_refused.ensures.value, (c.print_refused.ensures.out_after, c.print_refused.ensures.result_value)) in
+    printed_as g.out.now (line ∙ refused_printed g.input.now _ c.in-Err.ensures (is_refusal c.in-Err.refusal))
+    (c.print_refused.ensures.value, (c.print_refused.ensures.out_after, c.print_refused.ensures.result_value)) in
     record { value = shown.0; out_after = shown.1.0; result_value = shown.1.1 }

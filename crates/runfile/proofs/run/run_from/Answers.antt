@@ -58,8 +58,12 @@ fits : (c : After-run_events) → count c ≤ length (numbers c)
 fits c =
     let counted = c.event_count-count.ensures in
     let few : count c ≤ length (replicate {A = ℕ} 4096 0) = omega (arith, counted, c.requires.1, length-replicate {A = ℕ} 4096 0) in
-    omega (arith, few, fresh_long (setup c) (file c) (replicate 4096 0) (count c) counted (left c) (numbers c)
-    (rw c.empty-board.ensures at c.run_events.ensures.numbers_after) few)
+    omega (
+      arith,
+      few,
+      fresh_long (setup c) (file c) (replicate 4096 0) (count c) counted (left c) (numbers c)
+          (rw c.empty-board.ensures at c.run_events.ensures.numbers_after) few,
+    )
 
 sound : (c : After-run_events) → is_sound (view (setup c) (left c)) ≡ true
 sound c = rw (shown c) (c.requires.0 (calls_of (file c)))

@@ -34,6 +34,6 @@ returns c =
     let g = c.args in
     λ sound.
     let books =
-      all_shown_at g.setup g.board.now sound c.table_of-table.result c.records_of-records.result c.table_of-table.ensures
-      c.records_of-records.ensures g.out.now (omega arith) _ c.blank.ensures _ (rw c.from-n.ensures at c.books_all.ensures) in
+    all_shown_at g.setup g.board.now sound c.table_of-table.result c.records_of-records.result c.table_of-table.ensures
+    c.records_of-records.ensures g.out.now (omega arith) _ c.blank.ensures _ (rw c.from-n.ensures at c.books_all.ensures) in
     (books.0, books.1, ap answer_of books.0)
