@@ -8,8 +8,9 @@ ghost use Rattle.audit_witness.specs.Witness.{posting_words, trade_words, rate_w
 ghost use Rattle.audit_witness.specs.Needs.{Filed, Told};
 
 use amounts::put_units;
-use audit_input::{Answer, start_of};
-use audit_pair::{place_of, posting_at};
+use audit_input::Answer;
+use audit_pair::place_of;
+use audit_rule::{Postings, Records};
 use posting::{ACCOUNTS, Posting, net_of_all};
 use printer::print::{put_number, put_text};
 use sets::wide;
@@ -130,54 +131,41 @@ fn put_told(kinds: &[u8], x: usize, p: Posting, at: usize, out: &mut [u8]) -> us
 }
 
 // The two postings, and the accounts on which they conflict.
-fn put_pair(
-    kinds: &[u8],
-    firsts: &[u8],
-    seconds: &[u8],
-    amounts: &[u32],
-    x: usize,
-    y: usize,
-    at: usize,
-    out: &mut [u8],
-) -> usize
-    requires { Fields kinds.now firsts.now seconds.now amounts.now × (x < length kinds.now) × (y < length kinds.now) }
-    ensures { Put (pair_words kinds.now firsts.now seconds.now amounts.now x y) at out.old out.new result }
+fn put_pair(postings: Postings, x: usize, y: usize, at: usize, out: &mut [u8]) -> usize
+    requires { Fields postings.kinds.now postings.firsts.now postings.seconds.now postings.amounts.now × (x < length postings.kinds.now) × (y < length postings.kinds.now) }
+    ensures { Put (pair_words postings.entry.kinds.now postings.entry.firsts.now postings.entry.seconds.now postings.entry.amounts.now x y) at out.old out.new result }
 {
-    let p = posting_at(kinds, firsts, seconds, amounts, x);
-    let q = posting_at(kinds, firsts, seconds, amounts, y);
-    let a = put_told(kinds, x, p, at, out);
-    let b = put_told(kinds, y, q, a, out);
+    let p = postings.posting_at(x);
+    let q = postings.posting_at(y);
+    let a = put_told(postings.kinds, x, p, at, out);
+    let b = put_told(postings.kinds, y, q, a, out);
     let c = put_text(b"They conflict on these accounts:", b, out);
     let d = put_all_shared(p, q, c, out);
     put_text(b".\n", d, out)
 }
 
 // The line of a site's file that names a posting.
-fn line_number(lines: &[u16], ends: &[usize], tops: &[u8], p: usize, x: usize) -> usize
-    requires { Filed lines.now ends.now tops.now × (p < length ends.now) × (x < 65_536) }
-    ensures { result ≡ line_number lines.now ends.now tops.now p x }
+fn line_number(records: Records, tops: &[u8], p: usize, x: usize) -> usize
+    requires { Filed records.lines.now records.ends.now tops.now × (p < length records.ends.now) × (x < 65_536) }
+    ensures { result ≡ line_number records.entry.lines.now records.entry.ends.now tops.now p x }
 {
-    let from = start_of(ends, p);
-    let to = ends[p];
-    let place = place_of(&lines[from..to], x as u16);
-    wide(tops[p]) + place
+    wide(tops[p]) + place_of(records.record_of(p), x as u16)
 }
 
 // A posting and the line of a site's file that names it.
 fn put_stands(
     kinds: &[u8],
-    lines: &[u16],
-    ends: &[usize],
+    records: Records,
     tops: &[u8],
     p: usize,
     x: usize,
     at: usize,
     out: &mut [u8],
 ) -> usize
-    requires { Filed lines.now ends.now tops.now × (length kinds.now ≤ 65_536) × (p < length ends.now) × (x < length kinds.now) }
-    ensures { Put (stands_words kinds.now lines.now ends.now tops.now p x) at out.old out.new result }
+    requires { Filed records.lines.now records.ends.now tops.now × (length kinds.now ≤ 65_536) × (p < length records.ends.now) × (x < length kinds.now) }
+    ensures { Put (stands_words kinds.now records.entry.lines.now records.entry.ends.now tops.now p x) at out.old out.new result }
 {
-    let line = line_number(lines, ends, tops, p, x);
+    let line = line_number(records, tops, p, x);
     let a = put_posting(kinds, x, at, out);
     let b = put_text(b" (line ", a, out);
     let c = put_number(line, b, out);
@@ -187,28 +175,26 @@ fn put_stands(
 // What a site booked, and its line.
 fn put_booked(
     kinds: &[u8],
-    lines: &[u16],
-    ends: &[usize],
+    records: Records,
     tops: &[u8],
     p: usize,
     x: usize,
     at: usize,
     out: &mut [u8],
 ) -> usize
-    requires { Filed lines.now ends.now tops.now × (length kinds.now ≤ 65_536) × (p < length ends.now) × (x < length kinds.now) }
-    ensures { Put (booked_words kinds.now lines.now ends.now tops.now p x) at out.old out.new result }
+    requires { Filed records.lines.now records.ends.now tops.now × (length kinds.now ≤ 65_536) × (p < length records.ends.now) × (x < length kinds.now) }
+    ensures { Put (booked_words kinds.now records.entry.lines.now records.entry.ends.now tops.now p x) at out.old out.new result }
 {
     let a = put_text(b"Site ", at, out);
     let b = put_number(p, a, out);
     let c = put_text(b" booked ", b, out);
-    put_stands(kinds, lines, ends, tops, p, x, c, out)
+    put_stands(kinds, records, tops, p, x, c, out)
 }
 
 // A site has one posting ahead of another.
 fn put_ahead(
     kinds: &[u8],
-    lines: &[u16],
-    ends: &[usize],
+    records: Records,
     tops: &[u8],
     p: usize,
     x: usize,
@@ -216,20 +202,19 @@ fn put_ahead(
     at: usize,
     out: &mut [u8],
 ) -> usize
-    requires { Filed lines.now ends.now tops.now × (length kinds.now ≤ 65_536) × (p < length ends.now) × (x < length kinds.now) × (y < length kinds.now) }
-    ensures { Put (ahead_words kinds.now lines.now ends.now tops.now p x y) at out.old out.new result }
+    requires { Filed records.lines.now records.ends.now tops.now × (length kinds.now ≤ 65_536) × (p < length records.ends.now) × (x < length kinds.now) × (y < length kinds.now) }
+    ensures { Put (ahead_words kinds.now records.entry.lines.now records.entry.ends.now tops.now p x y) at out.old out.new result }
 {
-    let a = put_booked(kinds, lines, ends, tops, p, x, at, out);
+    let a = put_booked(kinds, records, tops, p, x, at, out);
     let b = put_text(b" ahead of ", a, out);
-    let c = put_stands(kinds, lines, ends, tops, p, y, b, out);
+    let c = put_stands(kinds, records, tops, p, y, b, out);
     put_text(b".\n", c, out)
 }
 
 // A site has one posting without another.
 fn put_without(
     kinds: &[u8],
-    lines: &[u16],
-    ends: &[usize],
+    records: Records,
     tops: &[u8],
     p: usize,
     x: usize,
@@ -237,10 +222,10 @@ fn put_without(
     at: usize,
     out: &mut [u8],
 ) -> usize
-    requires { Filed lines.now ends.now tops.now × (length kinds.now ≤ 65_536) × (p < length ends.now) × (x < length kinds.now) × (y < length kinds.now) }
-    ensures { Put (without_words kinds.now lines.now ends.now tops.now p x y) at out.old out.new result }
+    requires { Filed records.lines.now records.ends.now tops.now × (length kinds.now ≤ 65_536) × (p < length records.ends.now) × (x < length kinds.now) × (y < length kinds.now) }
+    ensures { Put (without_words kinds.now records.entry.lines.now records.entry.ends.now tops.now p x y) at out.old out.new result }
 {
-    let a = put_booked(kinds, lines, ends, tops, p, x, at, out);
+    let a = put_booked(kinds, records, tops, p, x, at, out);
     let b = put_text(b" without ", a, out);
     let c = put_posting(kinds, y, b, out);
     put_text(b".\n", c, out)
@@ -249,28 +234,27 @@ fn put_without(
 // What is found of the pair.
 fn put_finding(
     kinds: &[u8],
-    lines: &[u16],
-    ends: &[usize],
+    records: Records,
     tops: &[u8],
     r: Answer,
     at: usize,
     out: &mut [u8],
 ) -> usize
-    requires { Filed lines.now ends.now tops.now × Told kinds.now ends.now r }
-    ensures { Put (finding_words kinds.now lines.now ends.now tops.now r) at out.old out.new result }
+    requires { Filed records.lines.now records.ends.now tops.now × Told kinds.now records.ends.now r }
+    ensures { Put (finding_words kinds.now records.entry.lines.now records.entry.ends.now tops.now r) at out.old out.new result }
 {
     let x = r.first;
     let y = r.second;
     if r.code == CROSSED {
-        let a = put_ahead(kinds, lines, ends, tops, r.here, x, y, at, out);
-        return put_ahead(kinds, lines, ends, tops, r.there, y, x, a, out);
+        let a = put_ahead(kinds, records, tops, r.here, x, y, at, out);
+        return put_ahead(kinds, records, tops, r.there, y, x, a, out);
     }
     if r.code == MISSING {
-        let a = put_without(kinds, lines, ends, tops, r.here, y, x, at, out);
-        return put_ahead(kinds, lines, ends, tops, r.there, x, y, a, out);
+        let a = put_without(kinds, records, tops, r.here, y, x, at, out);
+        return put_ahead(kinds, records, tops, r.there, x, y, a, out);
     }
-    let a = put_without(kinds, lines, ends, tops, r.here, x, y, at, out);
-    let b = put_without(kinds, lines, ends, tops, r.there, y, x, a, out);
+    let a = put_without(kinds, records, tops, r.here, x, y, at, out);
+    let b = put_without(kinds, records, tops, r.there, y, x, a, out);
     put_text(b"No site booked both.\n", b, out)
 }
 
@@ -294,21 +278,17 @@ fn put_before(tops: &[u8], r: Answer, at: usize, out: &mut [u8]) -> usize
 
 // The pair that shows that the records do not agree.
 pub fn put_witness(
-    kinds: &[u8],
-    firsts: &[u8],
-    seconds: &[u8],
-    amounts: &[u32],
-    lines: &[u16],
-    ends: &[usize],
+    postings: Postings,
+    records: Records,
     tops: &[u8],
     r: Answer,
     at: usize,
     out: &mut [u8],
 ) -> usize
-    requires { Filed lines.now ends.now tops.now × Told kinds.now ends.now r × Fields kinds.now firsts.now seconds.now amounts.now }
-    ensures { Put (witness_words kinds.now firsts.now seconds.now amounts.now lines.now ends.now tops.now r) at out.old out.new result }
+    requires { Filed records.lines.now records.ends.now tops.now × Told postings.kinds.now records.ends.now r × Fields postings.kinds.now postings.firsts.now postings.seconds.now postings.amounts.now }
+    ensures { Put (witness_words postings.entry.kinds.now postings.entry.firsts.now postings.entry.seconds.now postings.entry.amounts.now records.entry.lines.now records.entry.ends.now tops.now r) at out.old out.new result }
 {
-    let a = put_finding(kinds, lines, ends, tops, r, at, out);
-    let b = put_pair(kinds, firsts, seconds, amounts, r.first, r.second, a, out);
+    let a = put_finding(postings.kinds, records, tops, r, at, out);
+    let b = put_pair(postings, r.first, r.second, a, out);
     put_before(tops, r, b, out)
 }
