@@ -11,6 +11,7 @@ use printer::print::{NEWLINE, put, put_number, put_text};
 use sets::wide;
 
 // A file by what it holds.
+#[tactic(auto, unfolding(crate::specs::Refusals::file_words))]
 fn put_file(file: usize, at: usize, out: &mut [u8]) -> usize
     ensures { Put (file_words file) at out.old out.new result }
 {
@@ -51,6 +52,7 @@ fn put_already(other: usize, at: usize, out: &mut [u8]) -> usize
 }
 
 // What is wrong with a posting.
+#[tactic(auto, unfolding(crate::specs::Refusals::fault_words))]
 fn put_fault(code: u8, other: usize, at: usize, out: &mut [u8]) -> usize
     ensures { Put (fault_words code other) at out.old out.new result }
 {
@@ -63,6 +65,7 @@ fn put_fault(code: u8, other: usize, at: usize, out: &mut [u8]) -> usize
 }
 
 // What is wrong with a line.
+#[tactic(auto, unfolding(crate::specs::Refusals::reason_words))]
 fn put_reason(code: u8, number: usize, other: usize, at: usize, out: &mut [u8]) -> usize
     ensures { Put (reason_words code number other) at out.old out.new result }
 {
@@ -103,6 +106,7 @@ fn put_refused_line(r: Refused, at: usize, out: &mut [u8]) -> usize
 }
 
 // What is refused.
+#[tactic(auto, unfolding(crate::specs::Refusals::refusal_words))]
 fn put_refusal(r: Refused, at: usize, out: &mut [u8]) -> usize
     ensures { Put (refusal_words r) at out.old out.new result }
 {

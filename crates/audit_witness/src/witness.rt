@@ -88,6 +88,7 @@ fn put_account(a: u8, at: usize, out: &mut [u8]) -> usize
 }
 
 // A posting's accounts and its amount.
+#[tactic(auto, unfolding(crate::specs::Witness::field_words))]
 fn put_fields(p: Posting, at: usize, out: &mut [u8]) -> usize
     ensures { Put (field_words p) at out.old out.new result }
 {
