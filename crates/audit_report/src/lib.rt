@@ -21,7 +21,6 @@ use audit_table::put_table;
 use audit_witness::refusals::put_refused;
 use audit_witness::witness::{put_posting, put_witness};
 use printer::print::{put_number, put_text};
-use sets::wide;
 
 const SITES: usize = 7;
 
@@ -139,7 +138,7 @@ fn top_of(tops: &[u8], site: usize) -> usize
     if tops.len() <= site {
         return 0;
     }
-    wide(tops[site])
+    usize::from(tops[site])
 }
 
 // A refused answer, at the line of its site's file.

@@ -8,7 +8,6 @@ ghost use Rattle.audit_witness.specs.Refusals.{file_words, line_words, fault_wor
 
 use audit_files::Refused;
 use printer::print::{NEWLINE, put, put_number, put_text};
-use sets::wide;
 
 // A file by what it holds.
 #[tactic(auto, unfolding(crate::specs::Refusals::file_words))]
@@ -127,7 +126,7 @@ pub fn put_refused(r: Refused, at: usize, out: &mut [u8]) -> usize
     ensures { Put (refused_text r) at out.old out.new result }
 {
     let p = put_text(b"NOT AUDITED ", at, out);
-    let q = put_number(wide(r.code), p, out);
+    let q = put_number(usize::from(r.code), p, out);
     let s = put(NEWLINE, q, out);
     put_refusal(r, s, out)
 }

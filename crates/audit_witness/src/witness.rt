@@ -13,7 +13,6 @@ use audit_pair::{CROSSED, MISSING, place_of};
 use audit_rule::{Postings, Records};
 use posting::{ACCOUNTS, CALL, Posting, RATE, TRADE, net_of_all};
 use printer::print::{put_number, put_text};
-use sets::wide;
 
 // The records of sites as their files hold them: beside them the number of each file's first line that is no heading.
 #[derive(Clone, Copy)]
@@ -28,7 +27,7 @@ impl<'a> SiteFiles<'a> {
         requires { Filed self.records.lines.now self.records.ends.now self.tops.now × (p < length self.records.ends.now) × (x < 65_536) }
         ensures { result ≡ line_number self.entry.records.lines.now self.entry.records.ends.now self.entry.tops.now p x }
     {
-        wide(self.tops[p]) + place_of(self.records.record_of(p), x as u16)
+        usize::from(self.tops[p]) + place_of(self.records.record_of(p), x as u16)
     }
 }
 
@@ -59,9 +58,9 @@ fn put_trade(a: u8, b: u8, amount: u32, at: usize, out: &mut [u8]) -> usize
     ensures { Put (trade_words a b amount) at out.old out.new result }
 {
     let p = put_text(b": accounts ", at, out);
-    let q = put_number(wide(a), p, out);
+    let q = put_number(usize::from(a), p, out);
     let r = put_text(b" and ", q, out);
-    let s = put_number(wide(b), r, out);
+    let s = put_number(usize::from(b), r, out);
     let t = put_text(b", ", s, out);
     let u = put_units(amount as usize, t, out);
     put_text(b".\n", u, out)
@@ -72,7 +71,7 @@ fn put_rate(a: u8, amount: u32, at: usize, out: &mut [u8]) -> usize
     ensures { Put (rate_words a amount) at out.old out.new result }
 {
     let p = put_text(b": account ", at, out);
-    let q = put_number(wide(a), p, out);
+    let q = put_number(usize::from(a), p, out);
     let r = put_text(b", ", q, out);
     let s = put_number(amount as usize, r, out);
     put_text(b" per 10,000.\n", s, out)
@@ -83,7 +82,7 @@ fn put_account(a: u8, at: usize, out: &mut [u8]) -> usize
     ensures { Put (account_words a) at out.old out.new result }
 {
     let p = put_text(b": account ", at, out);
-    let q = put_number(wide(a), p, out);
+    let q = put_number(usize::from(a), p, out);
     put_text(b".\n", q, out)
 }
 
@@ -108,7 +107,7 @@ fn put_shared(p: Posting, q: Posting, k: u8, at: usize, out: &mut [u8]) -> usize
 {
     if p.touches(k) && q.touches(k) {
         let place = put_text(b" ", at, out);
-        put_number(wide(k), place, out)
+        put_number(usize::from(k), place, out)
     } else {
         at
     }
@@ -253,7 +252,7 @@ fn put_before(tops: &[u8], r: Answer, at: usize, out: &mut [u8]) -> usize
     ensures { Put (before_words tops.now r) at out.old out.new result }
 {
     let site = r.site;
-    let line = wide(tops[site]) + r.line;
+    let line = usize::from(tops[site]) + r.line;
     let a = put_text(b"All that was read ahead of site ", at, out);
     let b = put_number(site, a, out);
     let c = put_text(b"'s line ", b, out);

@@ -11,7 +11,7 @@ pub returns-then-touches-2 : goal.returns-then-touches-2
 unfolding shared_account
 returns-then-touches-2 c =
     rw (sym c.touches.ensures ∙ c.if-touches.true, sym c.touches-then-touches.ensures ∙ c.if-touches-2.true)
-    (then_put c.put_text-place.ensures (put_as (ap decimal c.wide.ensures) c.put_number.ensures))
+    (then_put c.put_text-place.ensures (put_as (ap decimal c.from.ensures) c.put_number.ensures))
 
 pub returns-else-touches : goal.returns-else-touches
 unfolding shared_account

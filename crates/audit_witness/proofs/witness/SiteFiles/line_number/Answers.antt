@@ -16,8 +16,8 @@ overflow_add-result c =
     let x = c.args.x in
     let place : c.place_of.result ≡ place_of x (record_of r.lines.now r.ends.now p) = c.place_of.ensures ∙ ap (place_of x) c.record_of.ensures in
     let most = place_few x (start_of r.ends.now p) (get_or r.ends.now p 0) r.lines.now in
-    record { fits = omega (arith, c.wide.ensures, place, most, c.requires.0.few_lines) }
+    record { fits = omega (arith, c.from.ensures, place, most, c.requires.0.few_lines) }
 
 pub returns : goal.returns
 unfolding line_number
-returns c = ap₂ (λ n m. n + m) c.wide.ensures (c.place_of.ensures ∙ ap (place_of c.args.x) c.record_of.ensures)
+returns c = ap₂ (λ n m. n + m) c.from.ensures (c.place_of.ensures ∙ ap (place_of c.args.x) c.record_of.ensures)
