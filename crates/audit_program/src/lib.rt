@@ -8,6 +8,7 @@ use audit_files::Refused;
 use audit_files::files::{Read, Store, lower, read_postings, read_record, refusing, top_line};
 use audit_input::{NO_KIND, POSTINGS, matrix_ok};
 use audit_report::report;
+use audit_rule::{Postings, Records};
 use audit_witness::refusals::put_refused;
 use reading::read_full;
 use std::env::FillError;
@@ -290,25 +291,26 @@ fn say_too_long(rt: &impl Eprint) {
 fn report_read(
     rt: &(impl Print + Eprint),
     matrix: u16,
-    lines: &[u16],
-    ends: &[usize],
+    records: Records,
     tops: &[u8],
     store: &mut Store,
 )
-    requires { (length lines.now ≤ 458_759) × (length ends.now ≤ length tops.now) }
+    requires { (length records.lines.now ≤ 458_759) × (length records.ends.now ≤ length tops.now) }
 {
     let mut marks = [0; POSTINGS];
     let mut ahead = [0; AHEAD];
     let mut figures = [0; FIGURES];
     let mut out = [0; OUTPUT];
+    let postings = Postings {
+        kinds: &store.kinds,
+        firsts: &store.firsts,
+        seconds: &store.seconds,
+        amounts: &store.amounts,
+    };
     let answer = report(
         matrix,
-        &store.kinds,
-        &store.firsts,
-        &store.seconds,
-        &store.amounts,
-        lines,
-        ends,
+        postings,
+        records,
         tops,
         &mut marks,
         &mut store.wheres,
@@ -346,14 +348,11 @@ fn report_on(rt: &(impl Files + Env + Print + Eprint), matrix: u16, number: usiz
         say_refused(rt, read.refused);
         return;
     }
-    report_read(
-        rt,
-        matrix,
-        &lines[..read.count],
-        &ends[..n],
-        &tops,
-        &mut store,
-    );
+    let records = Records {
+        lines: &lines[..read.count],
+        ends: &ends[..n],
+    };
+    report_read(rt, matrix, records, &tops, &mut store);
 }
 
 // A site and its file, in a line.

@@ -16,11 +16,11 @@ use audit_files::Refused;
 use audit_input::Answer;
 use audit_lacks::{all_hold, count_postings, note_lacked};
 use audit_records::audit_records;
+use audit_rule::{Postings, Records};
 use audit_table::put_table;
 use audit_witness::refusals::put_refused;
 use audit_witness::witness::{put_posting, put_witness};
 use printer::print::{put_number, put_text};
-use sets::wide;
 
 const SITES: usize = 7;
 
@@ -112,27 +112,21 @@ fn put_agreed(
 
 // The report of records that do not.
 fn put_departs(
-    kinds: &[u8],
-    firsts: &[u8],
-    seconds: &[u8],
-    amounts: &[u32],
-    lines: &[u16],
-    ends: &[usize],
+    postings: Postings,
+    records: Records,
     tops: &[u8],
     figures: &[i64],
     r: Answer,
     at: usize,
     out: &mut [u8],
 ) -> usize
-    requires { Filed lines.now ends.now tops.now × Told kinds.now ends.now r × Fields kinds.now firsts.now seconds.now amounts.now }
-    ensures { Put (departs_words kinds.now firsts.now seconds.now amounts.now lines.now ends.now tops.now figures.now r) at out.old out.new result }
+    requires { Filed records.lines.now records.ends.now tops.now × Told postings.kinds.now records.ends.now r × Fields postings.kinds.now postings.firsts.now postings.seconds.now postings.amounts.now }
+    ensures { Put (departs_words postings.entry.kinds.now postings.entry.firsts.now postings.entry.seconds.now postings.entry.amounts.now records.entry.lines.now records.entry.ends.now tops.now figures.now r) at out.old out.new result }
 {
-    let n = ends.len();
+    let n = records.ends.len();
     let a = put_text(b"DO NOT AGREE\n", at, out);
-    let b = put_witness(
-        kinds, firsts, seconds, amounts, lines, ends, tops, r, a, out,
-    );
-    let c = put_read(kinds, lines.len(), n, b, out);
+    let b = put_witness(postings, records, tops, r, a, out);
+    let c = put_read(postings.kinds, records.lines.len(), n, b, out);
     put_table(figures, n, c, out)
 }
 
@@ -144,7 +138,7 @@ fn top_of(tops: &[u8], site: usize) -> usize
     if tops.len() <= site {
         return 0;
     }
-    wide(tops[site])
+    usize::from(tops[site])
 }
 
 // A refused answer, at the line of its site's file.
@@ -165,12 +159,8 @@ fn refusal_of(tops: &[u8], r: Answer) -> Refused
 
 // The report of any answer.
 fn put_answer(
-    kinds: &[u8],
-    firsts: &[u8],
-    seconds: &[u8],
-    amounts: &[u32],
-    lines: &[u16],
-    ends: &[usize],
+    postings: Postings,
+    records: Records,
     tops: &[u8],
     counts: &[usize],
     lowests: &[usize],
@@ -179,14 +169,14 @@ fn put_answer(
     at: usize,
     out: &mut [u8],
 ) -> usize
-    requires { Prepared kinds.now firsts.now seconds.now amounts.now lines.now ends.now tops.now counts.now lowests.now figures.now r }
-    ensures { Put (answer_text kinds.now firsts.now seconds.now amounts.now lines.now ends.now tops.now r) at out.old out.new result }
+    requires { Prepared postings.kinds.now postings.firsts.now postings.seconds.now postings.amounts.now records.lines.now records.ends.now tops.now counts.now lowests.now figures.now r }
+    ensures { Put (answer_text postings.entry.kinds.now postings.entry.firsts.now postings.entry.seconds.now postings.entry.amounts.now records.entry.lines.now records.entry.ends.now tops.now r) at out.old out.new result }
 {
     if r.code == 0 {
         return put_agreed(
-            kinds,
-            lines.len(),
-            ends.len(),
+            postings.kinds,
+            records.lines.len(),
+            records.ends.len(),
             counts,
             lowests,
             figures,
@@ -198,19 +188,13 @@ fn put_answer(
         let refused = refusal_of(tops, r);
         return put_refused(refused, at, out);
     }
-    put_departs(
-        kinds, firsts, seconds, amounts, lines, ends, tops, figures, r, at, out,
-    )
+    put_departs(postings, records, tops, figures, r, at, out)
 }
 
 // The report of any answer, printed. It is counted first, on no bytes of the slice.
 fn print_answer(
-    kinds: &[u8],
-    firsts: &[u8],
-    seconds: &[u8],
-    amounts: &[u32],
-    lines: &[u16],
-    ends: &[usize],
+    postings: Postings,
+    records: Records,
     tops: &[u8],
     counts: &[usize],
     lowests: &[usize],
@@ -218,17 +202,13 @@ fn print_answer(
     r: Answer,
     out: &mut [u8],
 ) -> Option<usize>
-    requires { Prepared kinds.now firsts.now seconds.now amounts.now lines.now ends.now tops.now counts.now lowests.now figures.now r }
-    ensures value { result ≡ answer_printed (answer_text kinds.now firsts.now seconds.now amounts.now lines.now ends.now tops.now r) out.old }
-    ensures out_after { out.new ≡ slice_printed (answer_text kinds.now firsts.now seconds.now amounts.now lines.now ends.now tops.now r) out.old }
+    requires { Prepared postings.kinds.now postings.firsts.now postings.seconds.now postings.amounts.now records.lines.now records.ends.now tops.now counts.now lowests.now figures.now r }
+    ensures value { result ≡ answer_printed (answer_text postings.entry.kinds.now postings.entry.firsts.now postings.entry.seconds.now postings.entry.amounts.now records.entry.lines.now records.entry.ends.now tops.now r) out.old }
+    ensures out_after { out.new ≡ slice_printed (answer_text postings.entry.kinds.now postings.entry.firsts.now postings.entry.seconds.now postings.entry.amounts.now records.entry.lines.now records.entry.ends.now tops.now r) out.old }
 {
     let needed = put_answer(
-        kinds,
-        firsts,
-        seconds,
-        amounts,
-        lines,
-        ends,
+        postings,
+        records,
         tops,
         counts,
         lowests,
@@ -240,72 +220,54 @@ fn print_answer(
     if out.len() < needed {
         return None;
     }
-    let end = put_answer(
-        kinds, firsts, seconds, amounts, lines, ends, tops, counts, lowests, figures, r, 0, out,
-    );
+    let end = put_answer(postings, records, tops, counts, lowests, figures, r, 0, out);
     Some(end)
 }
 
 // What each site lacks, and the figures of all records.
 fn note_all(
-    kinds: &[u8],
-    firsts: &[u8],
-    seconds: &[u8],
-    amounts: &[u32],
-    lines: &[u16],
-    ends: &[usize],
+    postings: Postings,
+    records: Records,
     marks: &mut [u8],
     counts: &mut [usize],
     lowests: &mut [usize],
     figures: &mut [i64],
 )
-    requires { Ready kinds.now firsts.now seconds.now amounts.now lines.now ends.now (length marks.old) (length counts.old) (length lowests.old) (length figures.old) }
-    ensures { Noted kinds.now firsts.now seconds.now amounts.now lines.now ends.now counts.new lowests.new figures.new }
+    requires { Ready postings.kinds.now postings.firsts.now postings.seconds.now postings.amounts.now records.lines.now records.ends.now (length marks.old) (length counts.old) (length lowests.old) (length figures.old) }
+    ensures { Noted postings.entry.kinds.now postings.entry.firsts.now postings.entry.seconds.now postings.entry.amounts.now records.entry.lines.now records.entry.ends.now counts.new lowests.new figures.new }
 {
-    note_lacked(lines, ends, kinds.len(), marks, counts, lowests);
-    figures_all(kinds, firsts, seconds, amounts, lines, ends, figures);
+    note_lacked(records, postings.kinds.len(), marks, counts, lowests);
+    figures_all(postings, records, figures);
 }
 
 // The same where the report needs it: where the records were not refused.
 fn prepare(
     code: u8,
-    kinds: &[u8],
-    firsts: &[u8],
-    seconds: &[u8],
-    amounts: &[u32],
-    lines: &[u16],
-    ends: &[usize],
+    postings: Postings,
+    records: Records,
     marks: &mut [u8],
     counts: &mut [usize],
     lowests: &mut [usize],
     figures: &mut [i64],
 )
-    requires { Accepted code → Ready kinds.now firsts.now seconds.now amounts.now lines.now ends.now (length marks.old) (length counts.old) (length lowests.old) (length figures.old) }
-    ensures { Accepted code → Noted kinds.now firsts.now seconds.now amounts.now lines.now ends.now counts.new lowests.new figures.new }
+    requires { Accepted code → Ready postings.kinds.now postings.firsts.now postings.seconds.now postings.amounts.now records.lines.now records.ends.now (length marks.old) (length counts.old) (length lowests.old) (length figures.old) }
+    ensures { Accepted code → Noted postings.entry.kinds.now postings.entry.firsts.now postings.entry.seconds.now postings.entry.amounts.now records.entry.lines.now records.entry.ends.now counts.new lowests.new figures.new }
 {
     if code == 0 {
-        note_all(
-            kinds, firsts, seconds, amounts, lines, ends, marks, counts, lowests, figures,
-        );
+        note_all(postings, records, marks, counts, lowests, figures);
         return;
     }
     if code < 10 {
         return;
     }
-    note_all(
-        kinds, firsts, seconds, amounts, lines, ends, marks, counts, lowests, figures,
-    );
+    note_all(postings, records, marks, counts, lowests, figures);
 }
 
 // The audit's report of what was handed over. The slices lent to work in hold anything after it.
 pub fn report(
     matrix: u16,
-    kinds: &[u8],
-    firsts: &[u8],
-    seconds: &[u8],
-    amounts: &[u32],
-    lines: &[u16],
-    ends: &[usize],
+    postings: Postings,
+    records: Records,
     tops: &[u8],
     marks: &mut [u8],
     places: &mut [u32],
@@ -313,29 +275,21 @@ pub fn report(
     figures: &mut [i64],
     out: &mut [u8],
 ) -> Option<usize>
-    requires { (length lines.now ≤ 458_759) × (length ends.now ≤ length tops.now) × (448 ≤ length figures.old) }
-    ensures value { result ≡ answer_printed (report_text matrix kinds.now firsts.now seconds.now amounts.now lines.now ends.now tops.now (length marks.old) (length places.old) (length ahead.old)) out.old }
-    ensures out_after { out.new ≡ slice_printed (report_text matrix kinds.now firsts.now seconds.now amounts.now lines.now ends.now tops.now (length marks.old) (length places.old) (length ahead.old)) out.old }
+    requires { (length records.lines.now ≤ 458_759) × (length records.ends.now ≤ length tops.now) × (448 ≤ length figures.old) }
+    ensures value { result ≡ answer_printed (report_text matrix postings.entry.kinds.now postings.entry.firsts.now postings.entry.seconds.now postings.entry.amounts.now records.entry.lines.now records.entry.ends.now tops.now (length marks.old) (length places.old) (length ahead.old)) out.old }
+    ensures out_after { out.new ≡ slice_printed (report_text matrix postings.entry.kinds.now postings.entry.firsts.now postings.entry.seconds.now postings.entry.amounts.now records.entry.lines.now records.entry.ends.now tops.now (length marks.old) (length places.old) (length ahead.old)) out.old }
 {
     let mut counts = [0; SITES];
     let mut lowests = [0; SITES];
-    let r = audit_records(
-        matrix, kinds, firsts, seconds, amounts, lines, ends, marks, places, ahead,
-    );
+    let r = audit_records(matrix, postings, records, marks, places, ahead);
     prepare(
         r.code,
-        kinds,
-        firsts,
-        seconds,
-        amounts,
-        lines,
-        ends,
+        postings,
+        records,
         marks,
         &mut counts,
         &mut lowests,
         figures,
     );
-    print_answer(
-        kinds, firsts, seconds, amounts, lines, ends, tops, &counts, &lowests, figures, r, out,
-    )
+    print_answer(postings, records, tops, &counts, &lowests, figures, r, out)
 }

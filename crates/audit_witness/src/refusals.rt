@@ -8,18 +8,19 @@ ghost use Rattle.audit_witness.specs.Refusals.{file_words, line_words, fault_wor
 
 use audit_files::Refused;
 use printer::print::{NEWLINE, put, put_number, put_text};
-use sets::wide;
 
 // A file by what it holds.
+#[tactic(auto, unfolding(crate::specs::Refusals::file_words))]
 fn put_file(file: usize, at: usize, out: &mut [u8]) -> usize
     ensures { Put (file_words file) at out.old out.new result }
 {
     if file == 0 {
-        return put_text(b"the postings' file", at, out);
+        put_text(b"the postings' file", at, out)
+    } else {
+        let p = put_text(b"site ", at, out);
+        let q = put_number(file - 1, p, out);
+        put_text(b"'s file", q, out)
     }
-    let p = put_text(b"site ", at, out);
-    let q = put_number(file - 1, p, out);
-    put_text(b"'s file", q, out)
 }
 
 // A line of a file.
@@ -50,47 +51,45 @@ fn put_already(other: usize, at: usize, out: &mut [u8]) -> usize
 }
 
 // What is wrong with a posting.
+#[tactic(auto, unfolding(crate::specs::Refusals::fault_words))]
 fn put_fault(code: u8, other: usize, at: usize, out: &mut [u8]) -> usize
     ensures { Put (fault_words code other) at out.old out.new result }
 {
-    if code == 5 {
-        return put_text(b" has fields outside the row of its kind.\n", at, out);
+    match code {
+        5 => put_text(b" has fields outside the row of its kind.\n", at, out),
+        7 => put_text(b" is not in the postings' file.\n", at, out),
+        8 => put_other_fields(other, at, out),
+        _ => put_already(other, at, out),
     }
-    if code == 7 {
-        return put_text(b" is not in the postings' file.\n", at, out);
-    }
-    if code == 8 {
-        return put_other_fields(other, at, out);
-    }
-    put_already(other, at, out)
 }
 
 // What is wrong with a line.
+#[tactic(auto, unfolding(crate::specs::Refusals::reason_words))]
 fn put_reason(code: u8, number: usize, other: usize, at: usize, out: &mut [u8]) -> usize
     ensures { Put (reason_words code number other) at out.old out.new result }
 {
     if code == 4 {
-        return put_text(
+        put_text(
             b"not number,kind,a,b,amount, nor, in a record beside a file of postings, a number.\n",
             at,
             out,
-        );
+        )
+    } else {
+        let p = put_text(b"posting ", at, out);
+        let q = put_number(number, p, out);
+        put_fault(code, other, q, out)
     }
-    let p = put_text(b"posting ", at, out);
-    let q = put_number(number, p, out);
-    put_fault(code, other, q, out)
 }
 
 // A file that could not be read, or that is too long.
 fn put_unread(file: usize, long: usize, at: usize, out: &mut [u8]) -> usize
     ensures { Put (unread_words file long) at out.old out.new result }
 {
-    if long == 0 {
-        let p = put_text(b"This file cannot be read: ", at, out);
-        let q = put_file(file, p, out);
-        return put_text(b".\n", q, out);
-    }
-    let p = put_text(b"This file has 2097152 bytes or more: ", at, out);
+    let p = if long == 0 {
+        put_text(b"This file cannot be read: ", at, out)
+    } else {
+        put_text(b"This file has 2097152 bytes or more: ", at, out)
+    };
     let q = put_file(file, p, out);
     put_text(b".\n", q, out)
 }
@@ -106,23 +105,20 @@ fn put_refused_line(r: Refused, at: usize, out: &mut [u8]) -> usize
 }
 
 // What is refused.
+#[tactic(auto, unfolding(crate::specs::Refusals::refusal_words))]
 fn put_refusal(r: Refused, at: usize, out: &mut [u8]) -> usize
     ensures { Put (refusal_words r) at out.old out.new result }
 {
-    if r.code == 1 {
-        return put_text(b"There must be one to seven records.\n", at, out);
-    }
-    if r.code == 2 {
-        return put_text(
+    match r.code {
+        1 => put_text(b"There must be one to seven records.\n", at, out),
+        2 => put_text(
             b"The matrix must be symmetric and have the fixed pairs.\n",
             at,
             out,
-        );
+        ),
+        3 => put_unread(r.file, r.number, at, out),
+        _ => put_refused_line(r, at, out),
     }
-    if r.code == 3 {
-        return put_unread(r.file, r.number, at, out);
-    }
-    put_refused_line(r, at, out)
 }
 
 // The report of a refusal.
@@ -130,7 +126,7 @@ pub fn put_refused(r: Refused, at: usize, out: &mut [u8]) -> usize
     ensures { Put (refused_text r) at out.old out.new result }
 {
     let p = put_text(b"NOT AUDITED ", at, out);
-    let q = put_number(wide(r.code), p, out);
+    let q = put_number(usize::from(r.code), p, out);
     let s = put(NEWLINE, q, out);
     put_refusal(r, s, out)
 }

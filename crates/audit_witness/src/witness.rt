@@ -8,30 +8,39 @@ ghost use Rattle.audit_witness.specs.Witness.{posting_words, trade_words, rate_w
 ghost use Rattle.audit_witness.specs.Needs.{Filed, Told};
 
 use amounts::put_units;
-use audit_input::{Answer, start_of};
-use audit_pair::{place_of, posting_at};
-use posting::{ACCOUNTS, Posting, net_of_all};
+use audit_input::Answer;
+use audit_pair::{CROSSED, MISSING, place_of};
+use audit_rule::{Postings, Records};
+use posting::{ACCOUNTS, CALL, Posting, RATE, TRADE, net_of_all};
 use printer::print::{put_number, put_text};
-use sets::wide;
 
-const CROSSED: u8 = 10;
+// The records of sites as their files hold them: beside them the number of each file's first line that is no heading.
+#[derive(Clone, Copy)]
+pub struct SiteFiles<'a> {
+    pub records: Records<'a>,
+    pub tops: &'a [u8],
+}
 
-const MISSING: u8 = 11;
+impl<'a> SiteFiles<'a> {
+    // The line of site p's file that names a posting.
+    fn line_number(self, p: usize, x: usize) -> usize
+        requires { Filed self.records.lines.now self.records.ends.now self.tops.now × (p < length self.records.ends.now) × (x < 65_536) }
+        ensures { result ≡ line_number self.entry.records.lines.now self.entry.records.ends.now self.entry.tops.now p x }
+    {
+        usize::from(self.tops[p]) + place_of(self.records.record_of(p), x as u16)
+    }
+}
 
 // A kind's word.
 fn put_kind(kind: u8, at: usize, out: &mut [u8]) -> usize
     ensures { Put (kind_word kind) at out.old out.new result }
 {
-    if kind == 0 {
-        return put_text(b"TRADE", at, out);
+    match kind {
+        TRADE => put_text(b"TRADE", at, out),
+        RATE => put_text(b"RATE", at, out),
+        CALL => put_text(b"CALL", at, out),
+        _ => put_text(b"NET", at, out),
     }
-    if kind == 1 {
-        return put_text(b"RATE", at, out);
-    }
-    if kind == 2 {
-        return put_text(b"CALL", at, out);
-    }
-    put_text(b"NET", at, out)
 }
 
 // A posting by its kind and number.
@@ -49,9 +58,9 @@ fn put_trade(a: u8, b: u8, amount: u32, at: usize, out: &mut [u8]) -> usize
     ensures { Put (trade_words a b amount) at out.old out.new result }
 {
     let p = put_text(b": accounts ", at, out);
-    let q = put_number(wide(a), p, out);
+    let q = put_number(usize::from(a), p, out);
     let r = put_text(b" and ", q, out);
-    let s = put_number(wide(b), r, out);
+    let s = put_number(usize::from(b), r, out);
     let t = put_text(b", ", s, out);
     let u = put_units(amount as usize, t, out);
     put_text(b".\n", u, out)
@@ -62,7 +71,7 @@ fn put_rate(a: u8, amount: u32, at: usize, out: &mut [u8]) -> usize
     ensures { Put (rate_words a amount) at out.old out.new result }
 {
     let p = put_text(b": account ", at, out);
-    let q = put_number(wide(a), p, out);
+    let q = put_number(usize::from(a), p, out);
     let r = put_text(b", ", q, out);
     let s = put_number(amount as usize, r, out);
     put_text(b" per 10,000.\n", s, out)
@@ -73,40 +82,35 @@ fn put_account(a: u8, at: usize, out: &mut [u8]) -> usize
     ensures { Put (account_words a) at out.old out.new result }
 {
     let p = put_text(b": account ", at, out);
-    let q = put_number(wide(a), p, out);
+    let q = put_number(usize::from(a), p, out);
     put_text(b".\n", q, out)
 }
 
 // A posting's accounts and its amount.
+#[tactic(auto, unfolding(crate::specs::Witness::field_words))]
 fn put_fields(p: Posting, at: usize, out: &mut [u8]) -> usize
     ensures { Put (field_words p) at out.old out.new result }
 {
     if net_of_all(p.kind, p.a, p.b) {
         return put_text(b": every account.\n", at, out);
     }
-    if p.kind == 0 {
-        return put_trade(p.a, p.b, p.amount, at, out);
+    match p.kind {
+        TRADE => put_trade(p.a, p.b, p.amount, at, out),
+        RATE => put_rate(p.a, p.amount, at, out),
+        _ => put_account(p.a, at, out),
     }
-    if p.kind == 1 {
-        return put_rate(p.a, p.amount, at, out);
-    }
-    put_account(p.a, at, out)
 }
 
 // An account, if two postings touch it both.
 fn put_shared(p: Posting, q: Posting, k: u8, at: usize, out: &mut [u8]) -> usize
     ensures { Put (shared_account p q k) at out.old out.new result }
 {
-    let first = p.touches(k);
-    if first == false {
-        return at;
+    if p.touches(k) && q.touches(k) {
+        let place = put_text(b" ", at, out);
+        put_number(usize::from(k), place, out)
+    } else {
+        at
     }
-    let second = q.touches(k);
-    if second == false {
-        return at;
-    }
-    let place = put_text(b" ", at, out);
-    put_number(wide(k), place, out)
 }
 
 // The accounts that two postings touch both.
@@ -130,54 +134,32 @@ fn put_told(kinds: &[u8], x: usize, p: Posting, at: usize, out: &mut [u8]) -> us
 }
 
 // The two postings, and the accounts on which they conflict.
-fn put_pair(
-    kinds: &[u8],
-    firsts: &[u8],
-    seconds: &[u8],
-    amounts: &[u32],
-    x: usize,
-    y: usize,
-    at: usize,
-    out: &mut [u8],
-) -> usize
-    requires { Fields kinds.now firsts.now seconds.now amounts.now × (x < length kinds.now) × (y < length kinds.now) }
-    ensures { Put (pair_words kinds.now firsts.now seconds.now amounts.now x y) at out.old out.new result }
+fn put_pair(postings: Postings, x: usize, y: usize, at: usize, out: &mut [u8]) -> usize
+    requires { Fields postings.kinds.now postings.firsts.now postings.seconds.now postings.amounts.now × (x < length postings.kinds.now) × (y < length postings.kinds.now) }
+    ensures { Put (pair_words postings.entry.kinds.now postings.entry.firsts.now postings.entry.seconds.now postings.entry.amounts.now x y) at out.old out.new result }
 {
-    let p = posting_at(kinds, firsts, seconds, amounts, x);
-    let q = posting_at(kinds, firsts, seconds, amounts, y);
-    let a = put_told(kinds, x, p, at, out);
-    let b = put_told(kinds, y, q, a, out);
+    let p = postings.posting_at(x);
+    let q = postings.posting_at(y);
+    let a = put_told(postings.kinds, x, p, at, out);
+    let b = put_told(postings.kinds, y, q, a, out);
     let c = put_text(b"They conflict on these accounts:", b, out);
     let d = put_all_shared(p, q, c, out);
     put_text(b".\n", d, out)
 }
 
-// The line of a site's file that names a posting.
-fn line_number(lines: &[u16], ends: &[usize], tops: &[u8], p: usize, x: usize) -> usize
-    requires { Filed lines.now ends.now tops.now × (p < length ends.now) × (x < 65_536) }
-    ensures { result ≡ line_number lines.now ends.now tops.now p x }
-{
-    let from = start_of(ends, p);
-    let to = ends[p];
-    let place = place_of(&lines[from..to], x as u16);
-    wide(tops[p]) + place
-}
-
 // A posting and the line of a site's file that names it.
 fn put_stands(
     kinds: &[u8],
-    lines: &[u16],
-    ends: &[usize],
-    tops: &[u8],
+    files: SiteFiles,
     p: usize,
     x: usize,
     at: usize,
     out: &mut [u8],
 ) -> usize
-    requires { Filed lines.now ends.now tops.now × (length kinds.now ≤ 65_536) × (p < length ends.now) × (x < length kinds.now) }
-    ensures { Put (stands_words kinds.now lines.now ends.now tops.now p x) at out.old out.new result }
+    requires { Filed files.records.lines.now files.records.ends.now files.tops.now × (length kinds.now ≤ 65_536) × (p < length files.records.ends.now) × (x < length kinds.now) }
+    ensures { Put (stands_words kinds.now files.entry.records.lines.now files.entry.records.ends.now files.entry.tops.now p x) at out.old out.new result }
 {
-    let line = line_number(lines, ends, tops, p, x);
+    let line = files.line_number(p, x);
     let a = put_posting(kinds, x, at, out);
     let b = put_text(b" (line ", a, out);
     let c = put_number(line, b, out);
@@ -187,91 +169,81 @@ fn put_stands(
 // What a site booked, and its line.
 fn put_booked(
     kinds: &[u8],
-    lines: &[u16],
-    ends: &[usize],
-    tops: &[u8],
+    files: SiteFiles,
     p: usize,
     x: usize,
     at: usize,
     out: &mut [u8],
 ) -> usize
-    requires { Filed lines.now ends.now tops.now × (length kinds.now ≤ 65_536) × (p < length ends.now) × (x < length kinds.now) }
-    ensures { Put (booked_words kinds.now lines.now ends.now tops.now p x) at out.old out.new result }
+    requires { Filed files.records.lines.now files.records.ends.now files.tops.now × (length kinds.now ≤ 65_536) × (p < length files.records.ends.now) × (x < length kinds.now) }
+    ensures { Put (booked_words kinds.now files.entry.records.lines.now files.entry.records.ends.now files.entry.tops.now p x) at out.old out.new result }
 {
     let a = put_text(b"Site ", at, out);
     let b = put_number(p, a, out);
     let c = put_text(b" booked ", b, out);
-    put_stands(kinds, lines, ends, tops, p, x, c, out)
+    put_stands(kinds, files, p, x, c, out)
 }
 
 // A site has one posting ahead of another.
 fn put_ahead(
     kinds: &[u8],
-    lines: &[u16],
-    ends: &[usize],
-    tops: &[u8],
+    files: SiteFiles,
     p: usize,
     x: usize,
     y: usize,
     at: usize,
     out: &mut [u8],
 ) -> usize
-    requires { Filed lines.now ends.now tops.now × (length kinds.now ≤ 65_536) × (p < length ends.now) × (x < length kinds.now) × (y < length kinds.now) }
-    ensures { Put (ahead_words kinds.now lines.now ends.now tops.now p x y) at out.old out.new result }
+    requires { Filed files.records.lines.now files.records.ends.now files.tops.now × (length kinds.now ≤ 65_536) × (p < length files.records.ends.now) × (x < length kinds.now) × (y < length kinds.now) }
+    ensures { Put (ahead_words kinds.now files.entry.records.lines.now files.entry.records.ends.now files.entry.tops.now p x y) at out.old out.new result }
 {
-    let a = put_booked(kinds, lines, ends, tops, p, x, at, out);
+    let a = put_booked(kinds, files, p, x, at, out);
     let b = put_text(b" ahead of ", a, out);
-    let c = put_stands(kinds, lines, ends, tops, p, y, b, out);
+    let c = put_stands(kinds, files, p, y, b, out);
     put_text(b".\n", c, out)
 }
 
 // A site has one posting without another.
 fn put_without(
     kinds: &[u8],
-    lines: &[u16],
-    ends: &[usize],
-    tops: &[u8],
+    files: SiteFiles,
     p: usize,
     x: usize,
     y: usize,
     at: usize,
     out: &mut [u8],
 ) -> usize
-    requires { Filed lines.now ends.now tops.now × (length kinds.now ≤ 65_536) × (p < length ends.now) × (x < length kinds.now) × (y < length kinds.now) }
-    ensures { Put (without_words kinds.now lines.now ends.now tops.now p x y) at out.old out.new result }
+    requires { Filed files.records.lines.now files.records.ends.now files.tops.now × (length kinds.now ≤ 65_536) × (p < length files.records.ends.now) × (x < length kinds.now) × (y < length kinds.now) }
+    ensures { Put (without_words kinds.now files.entry.records.lines.now files.entry.records.ends.now files.entry.tops.now p x y) at out.old out.new result }
 {
-    let a = put_booked(kinds, lines, ends, tops, p, x, at, out);
+    let a = put_booked(kinds, files, p, x, at, out);
     let b = put_text(b" without ", a, out);
     let c = put_posting(kinds, y, b, out);
     put_text(b".\n", c, out)
 }
 
 // What is found of the pair.
-fn put_finding(
-    kinds: &[u8],
-    lines: &[u16],
-    ends: &[usize],
-    tops: &[u8],
-    r: Answer,
-    at: usize,
-    out: &mut [u8],
-) -> usize
-    requires { Filed lines.now ends.now tops.now × Told kinds.now ends.now r }
-    ensures { Put (finding_words kinds.now lines.now ends.now tops.now r) at out.old out.new result }
+fn put_finding(kinds: &[u8], files: SiteFiles, r: Answer, at: usize, out: &mut [u8]) -> usize
+    requires { Filed files.records.lines.now files.records.ends.now files.tops.now × Told kinds.now files.records.ends.now r }
+    ensures { Put (finding_words kinds.now files.entry.records.lines.now files.entry.records.ends.now files.entry.tops.now r) at out.old out.new result }
 {
     let x = r.first;
     let y = r.second;
-    if r.code == CROSSED {
-        let a = put_ahead(kinds, lines, ends, tops, r.here, x, y, at, out);
-        return put_ahead(kinds, lines, ends, tops, r.there, y, x, a, out);
+    match r.code {
+        CROSSED => {
+            let a = put_ahead(kinds, files, r.here, x, y, at, out);
+            put_ahead(kinds, files, r.there, y, x, a, out)
+        }
+        MISSING => {
+            let a = put_without(kinds, files, r.here, y, x, at, out);
+            put_ahead(kinds, files, r.there, x, y, a, out)
+        }
+        _ => {
+            let a = put_without(kinds, files, r.here, x, y, at, out);
+            let b = put_without(kinds, files, r.there, y, x, a, out);
+            put_text(b"No site booked both.\n", b, out)
+        }
     }
-    if r.code == MISSING {
-        let a = put_without(kinds, lines, ends, tops, r.here, y, x, at, out);
-        return put_ahead(kinds, lines, ends, tops, r.there, x, y, a, out);
-    }
-    let a = put_without(kinds, lines, ends, tops, r.here, x, y, at, out);
-    let b = put_without(kinds, lines, ends, tops, r.there, y, x, a, out);
-    put_text(b"No site booked both.\n", b, out)
 }
 
 // What agrees.
@@ -280,7 +252,7 @@ fn put_before(tops: &[u8], r: Answer, at: usize, out: &mut [u8]) -> usize
     ensures { Put (before_words tops.now r) at out.old out.new result }
 {
     let site = r.site;
-    let line = wide(tops[site]) + r.line;
+    let line = usize::from(tops[site]) + r.line;
     let a = put_text(b"All that was read ahead of site ", at, out);
     let b = put_number(site, a, out);
     let c = put_text(b"'s line ", b, out);
@@ -294,21 +266,16 @@ fn put_before(tops: &[u8], r: Answer, at: usize, out: &mut [u8]) -> usize
 
 // The pair that shows that the records do not agree.
 pub fn put_witness(
-    kinds: &[u8],
-    firsts: &[u8],
-    seconds: &[u8],
-    amounts: &[u32],
-    lines: &[u16],
-    ends: &[usize],
-    tops: &[u8],
+    postings: Postings,
+    files: SiteFiles,
     r: Answer,
     at: usize,
     out: &mut [u8],
 ) -> usize
-    requires { Filed lines.now ends.now tops.now × Told kinds.now ends.now r × Fields kinds.now firsts.now seconds.now amounts.now }
-    ensures { Put (witness_words kinds.now firsts.now seconds.now amounts.now lines.now ends.now tops.now r) at out.old out.new result }
+    requires { Filed files.records.lines.now files.records.ends.now files.tops.now × Told postings.kinds.now files.records.ends.now r × Fields postings.kinds.now postings.firsts.now postings.seconds.now postings.amounts.now }
+    ensures { Put (witness_words postings.entry.kinds.now postings.entry.firsts.now postings.entry.seconds.now postings.entry.amounts.now files.entry.records.lines.now files.entry.records.ends.now files.entry.tops.now r) at out.old out.new result }
 {
-    let a = put_finding(kinds, lines, ends, tops, r, at, out);
-    let b = put_pair(kinds, firsts, seconds, amounts, r.first, r.second, a, out);
-    put_before(tops, r, b, out)
+    let a = put_finding(postings.kinds, files, r, at, out);
+    let b = put_pair(postings, r.first, r.second, a, out);
+    put_before(files.tops, r, b, out)
 }

@@ -6,8 +6,8 @@ use Rattle.printer.proofs.Writing.{written_within}
 use Rattle.audit_program.proofs.Lengths.{count_filled}
 use Rattle.audit_program.proofs.report_read.Goals as goal
 
-pub slice_bounds-report-end-7 : goal.slice_bounds-report-end-7
-slice_bounds-report-end-7 g c = count_filled 524_288 0
+pub slice_bounds-report-end-3 : goal.slice_bounds-report-end-3
+slice_bounds-report-end-3 g c = count_filled 524_288 0
 
 pub slice_bounds-out-end : goal.slice_bounds-out-end
 slice_bounds-out-end g c = written_within _ _ _ _ _ c.in-Some.is c.report-answer.ensures.value c.report-answer.ensures.out_after

@@ -9,4 +9,4 @@ pub returns-then-tops-site : goal.returns-then-tops-site
 returns-then-tops-site c = record { value = sym (get_or-eq_default c.args.tops.now 0 c.if-tops-site.true); upper_bound = omega arith }
 
 pub returns : goal.returns
-returns c = record { value = c.wide.ensures; upper_bound = omega (arith, c.wide.ensures, c.shared_slice_known-2-1.given c.args.site) }
+returns c = record { value = c.from.ensures; upper_bound = omega (arith, c.from.ensures, c.shared_slice_known-2-1.given c.args.site) }

@@ -10,5 +10,5 @@ pub returns : goal.returns
 unfolding refused_text
 returns c =
     then_put c.put_text-p.ensures
-    (then_put (put_as (ap decimal c.wide.ensures) c.put_number-q.ensures)
+    (then_put (put_as (ap decimal c.from.ensures) c.put_number-q.ensures)
     (then_put c.put-s.ensures c.put_refusal.ensures))

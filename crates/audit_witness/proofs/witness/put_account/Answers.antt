@@ -10,4 +10,4 @@ pub returns : goal.returns
 unfolding account_words
 returns c =
     then_put c.put_text-p.ensures
-    (then_put (put_as (ap decimal c.wide.ensures) c.put_number-q.ensures) c.put_text.ensures)
+    (then_put (put_as (ap decimal c.from.ensures) c.put_number-q.ensures) c.put_text.ensures)

@@ -9,7 +9,7 @@ use Rattle.audit_witness.specs.Witness.{before_words}
 use Rattle.audit_witness.proofs.witness.put_before.Goals as goal
 
 pub overflow_add-line : goal.overflow_add-line
-overflow_add-line c = record { fits = omega (arith, c.shared_slice_known-2-1.given c.args.r.site, c.wide.ensures, c.requires.1) }
+overflow_add-line c = record { fits = omega (arith, c.from.ensures, c.requires.1) }
 
 pub returns : goal.returns
 unfolding before_words
@@ -17,4 +17,4 @@ returns c =
     then_put c.put_text-a.ensures
     (then_put c.put_number-b.ensures
     (then_put c.put_text-c.ensures
-    (then_put (put_as (ap (λ (k : ℕ). decimal (k + c.args.r.line)) c.wide.ensures) c.put_number-d.ensures) c.put_text.ensures)))
+    (then_put (put_as (ap (λ (k : ℕ). decimal (k + c.args.r.line)) c.from.ensures) c.put_number-d.ensures) c.put_text.ensures)))

@@ -1,25 +1,22 @@
 -- `put_finding` meets its contract.
 -- Assumes nothing.
-use borrow.Author.Tests.{eq-eqb, ne_eqb}
+use borrow.Author.Rules.{rules}
+use borrow.Author.Tests.{ne_eqb}
 use Rattle.printer.proofs.Writing.{then_put}
 use Rattle.audit_witness.specs.Witness.{finding_words}
 use Rattle.audit_witness.proofs.witness.put_finding.Goals as goal
 
-pub returns-then-r-eq-CROSSED : goal.returns-then-r-eq-CROSSED
+pub returns-in-10 : goal.returns-in-10
 unfolding finding_words
-returns-then-r-eq-CROSSED c =
-    rw (eq-eqb c.args.r.code 10 c.if-r-eq-CROSSED.true)
-    (then_put c.put_ahead-a.ensures c.put_ahead.ensures)
+returns-in-10 c = rw c.in-10.is (then_put c.put_ahead-a.ensures c.put_ahead.ensures)
 
-pub returns-then-r-eq-MISSING : goal.returns-then-r-eq-MISSING
+pub returns-in-11 : goal.returns-in-11
 unfolding finding_words
-returns-then-r-eq-MISSING c =
-    rw (ne_eqb c.args.r.code 10 c.if-r-eq-CROSSED.false, eq-eqb c.args.r.code 11 c.if-r-eq-MISSING.true)
-    (then_put c.put_without-a.ensures c.put_ahead-then-r-eq-MISSING.ensures)
+returns-in-11 c = rw c.in-11.is (then_put c.put_without-a.ensures c.put_ahead-in-11.ensures)
 
-pub returns : goal.returns
+pub returns-in_default : goal.returns-in_default
 unfolding finding_words
-returns c =
-    rw (ne_eqb c.args.r.code 10 c.if-r-eq-CROSSED.false, ne_eqb c.args.r.code 11 c.if-r-eq-MISSING.false)
-    (then_put c.put_without-a-2.ensures
+returns-in_default c =
+    rw (ne_eqb c.args.r.code 10 (search rules), ne_eqb c.args.r.code 11 (search rules))
+    (then_put c.put_without-a-in_default.ensures
     (then_put c.put_without-b.ensures c.put_text.ensures))

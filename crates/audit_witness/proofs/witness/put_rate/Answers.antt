@@ -10,6 +10,6 @@ pub returns : goal.returns
 unfolding rate_words
 returns c =
     then_put c.put_text-p.ensures
-    (then_put (put_as (ap decimal c.wide.ensures) c.put_number-q.ensures)
+    (then_put (put_as (ap decimal c.from.ensures) c.put_number-q.ensures)
     (then_put c.put_text-r.ensures
     (then_put c.put_number-s.ensures c.put_text.ensures)))

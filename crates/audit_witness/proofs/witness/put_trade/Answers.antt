@@ -10,8 +10,8 @@ pub returns : goal.returns
 unfolding trade_words
 returns c =
     then_put c.put_text-p.ensures
-    (then_put (put_as (ap decimal c.wide.ensures) c.put_number-q.ensures)
+    (then_put (put_as (ap decimal c.from.ensures) c.put_number-q.ensures)
     (then_put c.put_text-r.ensures
-    (then_put (put_as (ap decimal c.wide-2.ensures) c.put_number-s.ensures)
+    (then_put (put_as (ap decimal c.from-2.ensures) c.put_number-s.ensures)
     (then_put c.put_text-t.ensures
     (then_put c.put_units-u.ensures c.put_text.ensures)))))
