@@ -8,11 +8,11 @@ use Rattle.audit_report.proofs.print_answer.Goals as goal
 pub returns-then-out-needed : goal.returns-then-out-needed
 returns-then-out-needed c =
     let a = c.args in
-    let p = too_short (answer_text a.postings.kinds.now a.postings.firsts.now a.postings.seconds.now a.postings.amounts.now a.records.lines.now a.records.ends.now a.tops.now a.r) a.out.now _ _ c.put_answer-needed.ensures c.if-out-needed.true in
+    let p = too_short (answer_text a.postings.kinds.now a.postings.firsts.now a.postings.seconds.now a.postings.amounts.now a.files.records.lines.now a.files.records.ends.now a.files.tops.now a.r) a.out.now _ _ c.put_answer-needed.ensures c.if-out-needed.true in
     record { value = p.0; out_after = p.1.0 }
 
 pub returns : goal.returns
 returns c =
     let a = c.args in
-    let p = written (answer_text a.postings.kinds.now a.postings.firsts.now a.postings.seconds.now a.postings.amounts.now a.records.lines.now a.records.ends.now a.tops.now a.r) a.out.now _ _ c.put_answer-needed.ensures _ _ (omega (arith, c.well_formed)) c.if-out-needed.false c.put_answer-end.ensures in
+    let p = written (answer_text a.postings.kinds.now a.postings.firsts.now a.postings.seconds.now a.postings.amounts.now a.files.records.lines.now a.files.records.ends.now a.files.tops.now a.r) a.out.now _ _ c.put_answer-needed.ensures _ _ (omega (arith, c.well_formed)) c.if-out-needed.false c.put_answer.ensures in
     record { value = p.0; out_after = p.1.0 }
