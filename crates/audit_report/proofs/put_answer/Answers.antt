@@ -12,10 +12,8 @@ returns-in-0 c = put_as (agreed_as _ _ _ _ _ _ c.args.files.tops.now _ _ _ c.arg
 
 pub returns-in-1-to-9 : goal.returns-in-1-to-9
 returns-in-1-to-9 c =
-    let p = c.args.postings in
-    let f = c.args.files in
     let n = c.args.notes in
-    put_as (refused_as p.kinds.now p.firsts.now p.seconds.now p.amounts.now f.records.lines.now f.records.ends.now f.tops.now n.counts.now n.lowests.now n.figures.now c.args.r (search rules) (search rules) _ c.refusal_of.ensures) c.put_refused.ensures
+    put_as (refused_as _ _ _ _ _ _ c.args.files.tops.now n.counts.now n.lowests.now n.figures.now c.args.r (search rules) (search rules) _ c.refusal_of.ensures) c.put_refused.ensures
 
 pub returns-in_default : goal.returns-in_default
 returns-in_default c =

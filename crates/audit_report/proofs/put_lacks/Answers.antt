@@ -12,12 +12,6 @@ pub loop-p-init : goal.loop-p-init
 unfolding lacked_lines
 loop-p-init c = (omega arith, nothing_put c.args.at c.args.out.now)
 
-pub bounds-notes-p : goal.bounds-notes-p
-bounds-notes-p c = omega (arith, c.loop-p-test.true, c.requires.counts_room)
-
-pub bounds-notes-p-in-loop-p : goal.bounds-notes-p-in-loop-p
-bounds-notes-p-in-loop-p c = omega (arith, c.loop-p-test.true, c.requires.lowests_room)
-
 pub put_lack-place-requires : goal.put_lack-place-requires
 put_lack-place-requires c = c.requires.known c.loop-p.p c.loop-p-test.true
 
