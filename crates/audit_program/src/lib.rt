@@ -10,6 +10,7 @@ use audit_input::{NO_KIND, POSTINGS, matrix_ok};
 use audit_report::report;
 use audit_rule::{Postings, Records};
 use audit_witness::refusals::put_refused;
+use audit_witness::witness::SiteFiles;
 use reading::read_full;
 use std::env::FillError;
 use std::io::{Cursor, Write};
@@ -288,14 +289,8 @@ fn say_too_long(rt: &impl Eprint) {
 }
 
 // The report of what was read.
-fn report_read(
-    rt: &(impl Print + Eprint),
-    matrix: u16,
-    records: Records,
-    tops: &[u8],
-    store: &mut Store,
-)
-    requires { (length records.lines.now ≤ 458_759) × (length records.ends.now ≤ length tops.now) }
+fn report_read(rt: &(impl Print + Eprint), matrix: u16, files: SiteFiles, store: &mut Store)
+    requires { (length files.records.lines.now ≤ 458_759) × (length files.records.ends.now ≤ length files.tops.now) }
 {
     let mut marks = [0; POSTINGS];
     let mut ahead = [0; AHEAD];
@@ -310,8 +305,7 @@ fn report_read(
     let answer = report(
         matrix,
         postings,
-        records,
-        tops,
+        files,
         &mut marks,
         &mut store.wheres,
         &mut ahead,
@@ -352,7 +346,11 @@ fn report_on(rt: &(impl Files + Env + Print + Eprint), matrix: u16, number: usiz
         lines: &lines[..read.count],
         ends: &ends[..n],
     };
-    report_read(rt, matrix, records, &tops, &mut store);
+    let files = SiteFiles {
+        records,
+        tops: &tops,
+    };
+    report_read(rt, matrix, files, &mut store);
 }
 
 // A site and its file, in a line.
