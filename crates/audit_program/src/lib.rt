@@ -10,7 +10,7 @@ use audit_input::{NO_KIND, POSTINGS, matrix_ok};
 use audit_report::report;
 use audit_rule::{Postings, Records};
 use audit_witness::refusals::put_refused;
-use audit_witness::witness::SiteFiles;
+use audit_witness::witness::Input;
 use reading::read_full;
 use std::env::FillError;
 use std::io::{Cursor, Write};
@@ -289,23 +289,26 @@ fn say_too_long(rt: &impl Eprint) {
 }
 
 // The report of what was read.
-fn report_read(rt: &(impl Print + Eprint), matrix: u16, files: SiteFiles, store: &mut Store)
-    requires { (length files.records.lines.now ≤ 458_759) × (length files.records.ends.now ≤ length files.tops.now) }
+fn report_read(rt: &(impl Print + Eprint), matrix: u16, files: Input, store: &mut Store)
+    requires { (length records.lines.now ≤ 458_759) × (length records.ends.now ≤ length tops.now) }
 {
     let mut marks = [0; POSTINGS];
     let mut ahead = [0; AHEAD];
     let mut figures = [0; FIGURES];
     let mut out = [0; OUTPUT];
-    let postings = Postings {
-        kinds: &store.kinds,
-        firsts: &store.firsts,
-        seconds: &store.seconds,
-        amounts: &store.amounts,
+    let input = Input {
+        postings: Postings {
+            kinds: &store.kinds,
+            firsts: &store.firsts,
+            seconds: &store.seconds,
+            amounts: &store.amounts,
+        },
+        records,
+        tops,
     };
     let answer = report(
         matrix,
-        postings,
-        files,
+        input,
         &mut marks,
         &mut store.wheres,
         &mut ahead,
@@ -346,11 +349,7 @@ fn report_on(rt: &(impl Files + Env + Print + Eprint), matrix: u16, number: usiz
         lines: &lines[..read.count],
         ends: &ends[..n],
     };
-    let files = SiteFiles {
-        records,
-        tops: &tops,
-    };
-    report_read(rt, matrix, files, &mut store);
+    report_read(rt, matrix, records, &tops, &mut store);
 }
 
 // A site and its file, in a line.

@@ -19,7 +19,7 @@ use audit_records::audit_records;
 use audit_rule::{Postings, Records};
 use audit_table::put_table;
 use audit_witness::refusals::put_refused;
-use audit_witness::witness::{SiteFiles, put_posting, put_witness};
+use audit_witness::witness::{Input, put_posting, put_witness};
 use printer::print::{put_number, put_text};
 
 const SITES: usize = 7;
@@ -104,21 +104,14 @@ fn put_agreed(kinds: &[u8], records: Records, notes: Notes, at: usize, out: &mut
 }
 
 // The report of records that do not.
-fn put_departs(
-    postings: Postings,
-    files: SiteFiles,
-    figures: &[i64],
-    r: Answer,
-    at: usize,
-    out: &mut [u8],
-) -> usize
-    requires { Filed files.records.lines.now files.records.ends.now files.tops.now × Told postings.kinds.now files.records.ends.now r × Fields postings.kinds.now postings.firsts.now postings.seconds.now postings.amounts.now }
-    ensures { Put (departs_words postings.entry.kinds.now postings.entry.firsts.now postings.entry.seconds.now postings.entry.amounts.now files.entry.records.lines.now files.entry.records.ends.now files.entry.tops.now figures.now r) at out.old out.new result }
+fn put_departs(input: Input, figures: &[i64], r: Answer, at: usize, out: &mut [u8]) -> usize
+    requires { Filed input.records.lines.now input.records.ends.now input.tops.now × Told input.postings.kinds.now input.records.ends.now r × Fields input.postings.kinds.now input.postings.firsts.now input.postings.seconds.now input.postings.amounts.now }
+    ensures { Put (departs_words input.entry.postings.kinds.now input.entry.postings.firsts.now input.entry.postings.seconds.now input.entry.postings.amounts.now input.entry.records.lines.now input.entry.records.ends.now input.entry.tops.now figures.now r) at out.old out.new result }
 {
     let a = put_text(b"DO NOT AGREE\n", at, out);
-    let b = put_witness(postings, files, r, a, out);
-    let c = put_read(postings.kinds, files.records, b, out);
-    put_table(figures, files.records.ends.len(), c, out)
+    let b = put_witness(input, r, a, out);
+    let c = put_read(input.postings.kinds, input.records, b, out);
+    put_table(figures, input.records.ends.len(), c, out)
 }
 
 // The number of the first line of a site's file that is no heading.
@@ -150,41 +143,28 @@ fn refusal_of(tops: &[u8], r: Answer) -> Refused
 }
 
 // The report of any answer.
-fn put_answer(
-    postings: Postings,
-    files: SiteFiles,
-    notes: Notes,
-    r: Answer,
-    at: usize,
-    out: &mut [u8],
-) -> usize
-    requires { Prepared postings.kinds.now postings.firsts.now postings.seconds.now postings.amounts.now files.records.lines.now files.records.ends.now files.tops.now notes.counts.now notes.lowests.now notes.figures.now r }
-    ensures { Put (answer_text postings.entry.kinds.now postings.entry.firsts.now postings.entry.seconds.now postings.entry.amounts.now files.entry.records.lines.now files.entry.records.ends.now files.entry.tops.now r) at out.old out.new result }
+fn put_answer(input: Input, notes: Notes, r: Answer, at: usize, out: &mut [u8]) -> usize
+    requires { Prepared input.postings.kinds.now input.postings.firsts.now input.postings.seconds.now input.postings.amounts.now input.records.lines.now input.records.ends.now input.tops.now notes.counts.now notes.lowests.now notes.figures.now r }
+    ensures { Put (answer_text input.entry.postings.kinds.now input.entry.postings.firsts.now input.entry.postings.seconds.now input.entry.postings.amounts.now input.entry.records.lines.now input.entry.records.ends.now input.entry.tops.now r) at out.old out.new result }
 {
     match r.code {
-        0 => put_agreed(postings.kinds, files.records, notes, at, out),
-        1..=9 => put_refused(refusal_of(files.tops, r), at, out),
-        _ => put_departs(postings, files, notes.figures, r, at, out),
+        0 => put_agreed(input.postings.kinds, input.records, notes, at, out),
+        1..=9 => put_refused(refusal_of(input.tops, r), at, out),
+        _ => put_departs(input, notes.figures, r, at, out),
     }
 }
 
 // The report of any answer, printed. It is counted first, on no bytes of the slice.
-fn print_answer(
-    postings: Postings,
-    files: SiteFiles,
-    notes: Notes,
-    r: Answer,
-    out: &mut [u8],
-) -> Option<usize>
-    requires { Prepared postings.kinds.now postings.firsts.now postings.seconds.now postings.amounts.now files.records.lines.now files.records.ends.now files.tops.now notes.counts.now notes.lowests.now notes.figures.now r }
-    ensures value { result ≡ answer_printed (answer_text postings.entry.kinds.now postings.entry.firsts.now postings.entry.seconds.now postings.entry.amounts.now files.entry.records.lines.now files.entry.records.ends.now files.entry.tops.now r) out.old }
-    ensures out_after { out.new ≡ slice_printed (answer_text postings.entry.kinds.now postings.entry.firsts.now postings.entry.seconds.now postings.entry.amounts.now files.entry.records.lines.now files.entry.records.ends.now files.entry.tops.now r) out.old }
+fn print_answer(input: Input, notes: Notes, r: Answer, out: &mut [u8]) -> Option<usize>
+    requires { Prepared input.postings.kinds.now input.postings.firsts.now input.postings.seconds.now input.postings.amounts.now input.records.lines.now input.records.ends.now input.tops.now notes.counts.now notes.lowests.now notes.figures.now r }
+    ensures value { result ≡ answer_printed (answer_text input.entry.postings.kinds.now input.entry.postings.firsts.now input.entry.postings.seconds.now input.entry.postings.amounts.now input.entry.records.lines.now input.entry.records.ends.now input.entry.tops.now r) out.old }
+    ensures out_after { out.new ≡ slice_printed (answer_text input.entry.postings.kinds.now input.entry.postings.firsts.now input.entry.postings.seconds.now input.entry.postings.amounts.now input.entry.records.lines.now input.entry.records.ends.now input.entry.tops.now r) out.old }
 {
-    let needed = put_answer(postings, files, notes, r, 0, &mut out[0..0]);
+    let needed = put_answer(input, notes, r, 0, &mut out[0..0]);
     if out.len() < needed {
         return None;
     }
-    Some(put_answer(postings, files, notes, r, 0, out))
+    Some(put_answer(input, notes, r, 0, out))
 }
 
 // What each site lacks, and the figures of all records, where the report needs them: where the records were not refused.
@@ -209,25 +189,24 @@ fn prepare(
 // The audit's report of what was handed over. The slices lent to work in hold anything after it.
 pub fn report(
     matrix: u16,
-    postings: Postings,
-    files: SiteFiles,
+    input: Input,
     marks: &mut [u8],
     places: &mut [u32],
     ahead: &mut [u32],
     figures: &mut [i64],
     out: &mut [u8],
 ) -> Option<usize>
-    requires { (length files.records.lines.now ≤ 458_759) × (length files.records.ends.now ≤ length files.tops.now) × (448 ≤ length figures.old) }
-    ensures value { result ≡ answer_printed (report_text matrix postings.entry.kinds.now postings.entry.firsts.now postings.entry.seconds.now postings.entry.amounts.now files.entry.records.lines.now files.entry.records.ends.now files.entry.tops.now (length marks.old) (length places.old) (length ahead.old)) out.old }
-    ensures out_after { out.new ≡ slice_printed (report_text matrix postings.entry.kinds.now postings.entry.firsts.now postings.entry.seconds.now postings.entry.amounts.now files.entry.records.lines.now files.entry.records.ends.now files.entry.tops.now (length marks.old) (length places.old) (length ahead.old)) out.old }
+    requires { (length input.records.lines.now ≤ 458_759) × (length input.records.ends.now ≤ length input.tops.now) × (448 ≤ length figures.old) }
+    ensures value { result ≡ answer_printed (report_text matrix input.entry.postings.kinds.now input.entry.postings.firsts.now input.entry.postings.seconds.now input.entry.postings.amounts.now input.entry.records.lines.now input.entry.records.ends.now input.entry.tops.now (length marks.old) (length places.old) (length ahead.old)) out.old }
+    ensures out_after { out.new ≡ slice_printed (report_text matrix input.entry.postings.kinds.now input.entry.postings.firsts.now input.entry.postings.seconds.now input.entry.postings.amounts.now input.entry.records.lines.now input.entry.records.ends.now input.entry.tops.now (length marks.old) (length places.old) (length ahead.old)) out.old }
 {
     let mut counts = [0; SITES];
     let mut lowests = [0; SITES];
-    let r = audit_records(matrix, postings, files.records, marks, places, ahead);
+    let r = audit_records(matrix, input.postings, input.records, marks, places, ahead);
     prepare(
         r.code,
-        postings,
-        files.records,
+        input.postings,
+        input.records,
         marks,
         &mut counts,
         &mut lowests,
@@ -238,5 +217,5 @@ pub fn report(
         lowests: &lowests,
         figures,
     };
-    print_answer(postings, files, notes, r, out)
+    print_answer(input, notes, r, out)
 }

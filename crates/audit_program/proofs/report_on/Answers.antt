@@ -23,8 +23,8 @@ pub slice_bounds-records-end-2 : goal.slice_bounds-records-end-2
 slice_bounds-records-end-2 g c =
     sym (length-take-le c.args.n c.read_files-read.new.ends (within c.requires.0 c.read_files-read.ensures.lengths.1))
 
-pub slice_bounds-files-end : goal.slice_bounds-files-end
-slice_bounds-files-end g c = sym c.read_files-read.ensures.lengths.2
+pub slice_bounds-report_read-end : goal.slice_bounds-report_read-end
+slice_bounds-report_read-end g c = sym c.read_files-read.ensures.lengths.2
 
 pub report_read-requires : goal.report_read-requires
 report_read-requires g c =
