@@ -289,7 +289,13 @@ fn say_too_long(rt: &impl Eprint) {
 }
 
 // The report of what was read.
-fn report_read(rt: &(impl Print + Eprint), matrix: u16, files: Input, store: &mut Store)
+fn report_read<'a>(
+    rt: &(impl Print + Eprint),
+    matrix: u16,
+    records: Records<'a>,
+    tops: &'a [u8],
+    store: &'a mut Store,
+)
     requires { (length records.lines.now ≤ 458_759) × (length records.ends.now ≤ length tops.now) }
 {
     let mut marks = [0; POSTINGS];
