@@ -10,6 +10,7 @@ use audit_input::{NO_KIND, POSTINGS, matrix_ok};
 use audit_report::report;
 use audit_rule::{Postings, Records};
 use audit_witness::refusals::put_refused;
+use audit_witness::witness::Input;
 use reading::read_full;
 use std::env::FillError;
 use std::io::{Cursor, Write};
@@ -288,12 +289,12 @@ fn say_too_long(rt: &impl Eprint) {
 }
 
 // The report of what was read.
-fn report_read(
+fn report_read<'a>(
     rt: &(impl Print + Eprint),
     matrix: u16,
-    records: Records,
-    tops: &[u8],
-    store: &mut Store,
+    records: Records<'a>,
+    tops: &'a [u8],
+    store: &'a mut Store,
 )
     requires { (length records.lines.now ≤ 458_759) × (length records.ends.now ≤ length tops.now) }
 {
@@ -301,17 +302,19 @@ fn report_read(
     let mut ahead = [0; AHEAD];
     let mut figures = [0; FIGURES];
     let mut out = [0; OUTPUT];
-    let postings = Postings {
-        kinds: &store.kinds,
-        firsts: &store.firsts,
-        seconds: &store.seconds,
-        amounts: &store.amounts,
+    let input = Input {
+        postings: Postings {
+            kinds: &store.kinds,
+            firsts: &store.firsts,
+            seconds: &store.seconds,
+            amounts: &store.amounts,
+        },
+        records,
+        tops,
     };
     let answer = report(
         matrix,
-        postings,
-        records,
-        tops,
+        input,
         &mut marks,
         &mut store.wheres,
         &mut ahead,

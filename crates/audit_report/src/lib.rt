@@ -19,22 +19,29 @@ use audit_records::audit_records;
 use audit_rule::{Postings, Records};
 use audit_table::put_table;
 use audit_witness::refusals::put_refused;
-use audit_witness::witness::{put_posting, put_witness};
+use audit_witness::witness::{Input, put_posting, put_witness};
 use printer::print::{put_number, put_text};
 
 const SITES: usize = 7;
 
+// What is noted of records that are not refused: how many postings each site lacks, the lowest of them, and the figures of all.
+#[derive(Clone, Copy)]
+struct Notes<'a> {
+    counts: &'a [usize],
+    lowests: &'a [usize],
+    figures: &'a [i64],
+}
+
 // What was read.
-fn put_read(kinds: &[u8], lines: usize, sites: usize, at: usize, out: &mut [u8]) -> usize
-    ensures { Put (read_words kinds.now lines sites) at out.old out.new result }
+fn put_read(kinds: &[u8], records: Records, at: usize, out: &mut [u8]) -> usize
+    ensures { Put (read_words kinds.now (length records.entry.lines.now) (length records.entry.ends.now)) at out.old out.new result }
 {
-    let many = count_postings(kinds);
     let a = put_text(b"Records read: ", at, out);
-    let b = put_number(sites, a, out);
+    let b = put_number(records.ends.len(), a, out);
     let c = put_text(b". Lines: ", b, out);
-    let d = put_number(lines, c, out);
+    let d = put_number(records.lines.len(), c, out);
     let e = put_text(b". Postings: ", d, out);
-    let f = put_number(many, e, out);
+    let f = put_number(count_postings(kinds), e, out);
     put_text(b".\n", f, out)
 }
 
@@ -56,20 +63,13 @@ fn put_lack(kinds: &[u8], p: usize, many: usize, lowest: usize, at: usize, out: 
 }
 
 // What the sites lack.
-fn put_lacks(
-    kinds: &[u8],
-    n: usize,
-    counts: &[usize],
-    lowests: &[usize],
-    at: usize,
-    out: &mut [u8],
-) -> usize
-    requires { LacksKnown kinds.now counts.now lowests.now n }
-    ensures { Put (lacked_lines kinds.now counts.now lowests.now n) at out.old out.new result }
+fn put_lacks(kinds: &[u8], n: usize, notes: Notes, at: usize, out: &mut [u8]) -> usize
+    requires { LacksKnown kinds.now notes.counts.now notes.lowests.now n }
+    ensures { Put (lacked_lines kinds.now notes.entry.counts.now notes.entry.lowests.now n) at out.old out.new result }
 {
     let mut place = at;
     for p in 0..n {
-        place = put_lack(kinds, p, counts[p], lowests[p], place, out);
+        place = put_lack(kinds, p, notes.counts[p], notes.lowests[p], place, out);
     }
     place
 }
@@ -79,55 +79,39 @@ fn put_verdict(same: bool, at: usize, out: &mut [u8]) -> usize
     ensures { Put (cond same (text "SAME BOOKS\n") (text "AGREE SO FAR\n")) at out.old out.new result }
 {
     if same {
-        return put_text(b"SAME BOOKS\n", at, out);
+        put_text(b"SAME BOOKS\n", at, out)
+    } else {
+        put_text(b"AGREE SO FAR\n", at, out)
     }
-    put_text(b"AGREE SO FAR\n", at, out)
 }
 
 // The report of records that agree.
-fn put_agreed(
-    kinds: &[u8],
-    lines: usize,
-    n: usize,
-    counts: &[usize],
-    lowests: &[usize],
-    figures: &[i64],
-    at: usize,
-    out: &mut [u8],
-) -> usize
-    requires { LacksKnown kinds.now counts.now lowests.now n × (n ≤ 7) }
-    ensures { Put (agreed_words kinds.now lines n counts.now lowests.now figures.now) at out.old out.new result }
+fn put_agreed(kinds: &[u8], records: Records, notes: Notes, at: usize, out: &mut [u8]) -> usize
+    requires { LacksKnown kinds.now notes.counts.now notes.lowests.now (length records.ends.now) × (length records.ends.now ≤ 7) }
+    ensures { Put (agreed_words kinds.now (length records.entry.lines.now) (length records.entry.ends.now) notes.entry.counts.now notes.entry.lowests.now notes.entry.figures.now) at out.old out.new result }
 {
-    let same = all_hold(n, counts);
+    let n = records.ends.len();
+    let same = all_hold(n, notes.counts);
     let a = put_verdict(same, at, out);
-    let b = put_read(kinds, lines, n, a, out);
-    let c = put_lacks(kinds, n, counts, lowests, b, out);
+    let b = put_read(kinds, records, a, out);
+    let c = put_lacks(kinds, n, notes, b, out);
     let d = put_text(
         b"One order for all: site 0's record, then what site 1 has beyond it, and so on.\n",
         c,
         out,
     );
-    put_table(figures, n, d, out)
+    put_table(notes.figures, n, d, out)
 }
 
 // The report of records that do not.
-fn put_departs(
-    postings: Postings,
-    records: Records,
-    tops: &[u8],
-    figures: &[i64],
-    r: Answer,
-    at: usize,
-    out: &mut [u8],
-) -> usize
-    requires { Filed records.lines.now records.ends.now tops.now × Told postings.kinds.now records.ends.now r × Fields postings.kinds.now postings.firsts.now postings.seconds.now postings.amounts.now }
-    ensures { Put (departs_words postings.entry.kinds.now postings.entry.firsts.now postings.entry.seconds.now postings.entry.amounts.now records.entry.lines.now records.entry.ends.now tops.now figures.now r) at out.old out.new result }
+fn put_departs(input: Input, figures: &[i64], r: Answer, at: usize, out: &mut [u8]) -> usize
+    requires { Filed input.records.lines.now input.records.ends.now input.tops.now × Told input.postings.kinds.now input.records.ends.now r × Fields input.postings.kinds.now input.postings.firsts.now input.postings.seconds.now input.postings.amounts.now }
+    ensures { Put (departs_words input.entry.postings.kinds.now input.entry.postings.firsts.now input.entry.postings.seconds.now input.entry.postings.amounts.now input.entry.records.lines.now input.entry.records.ends.now input.entry.tops.now figures.now r) at out.old out.new result }
 {
-    let n = records.ends.len();
     let a = put_text(b"DO NOT AGREE\n", at, out);
-    let b = put_witness(postings, records, tops, r, a, out);
-    let c = put_read(postings.kinds, records.lines.len(), n, b, out);
-    put_table(figures, n, c, out)
+    let b = put_witness(input, r, a, out);
+    let c = put_read(input.postings.kinds, input.records, b, out);
+    put_table(figures, input.records.ends.len(), c, out)
 }
 
 // The number of the first line of a site's file that is no heading.
@@ -135,10 +119,11 @@ fn top_of(tops: &[u8], site: usize) -> usize
     ensures value { result ≡ get_or tops.now site 0 }
     ensures upper_bound { result ≤ 255 }
 {
-    if tops.len() <= site {
-        return 0;
+    if site < tops.len() {
+        usize::from(tops[site])
+    } else {
+        0
     }
-    usize::from(tops[site])
 }
 
 // A refused answer, at the line of its site's file.
@@ -158,89 +143,31 @@ fn refusal_of(tops: &[u8], r: Answer) -> Refused
 }
 
 // The report of any answer.
-fn put_answer(
-    postings: Postings,
-    records: Records,
-    tops: &[u8],
-    counts: &[usize],
-    lowests: &[usize],
-    figures: &[i64],
-    r: Answer,
-    at: usize,
-    out: &mut [u8],
-) -> usize
-    requires { Prepared postings.kinds.now postings.firsts.now postings.seconds.now postings.amounts.now records.lines.now records.ends.now tops.now counts.now lowests.now figures.now r }
-    ensures { Put (answer_text postings.entry.kinds.now postings.entry.firsts.now postings.entry.seconds.now postings.entry.amounts.now records.entry.lines.now records.entry.ends.now tops.now r) at out.old out.new result }
+fn put_answer(input: Input, notes: Notes, r: Answer, at: usize, out: &mut [u8]) -> usize
+    requires { Prepared input.postings.kinds.now input.postings.firsts.now input.postings.seconds.now input.postings.amounts.now input.records.lines.now input.records.ends.now input.tops.now notes.counts.now notes.lowests.now notes.figures.now r }
+    ensures { Put (answer_text input.entry.postings.kinds.now input.entry.postings.firsts.now input.entry.postings.seconds.now input.entry.postings.amounts.now input.entry.records.lines.now input.entry.records.ends.now input.entry.tops.now r) at out.old out.new result }
 {
-    if r.code == 0 {
-        return put_agreed(
-            postings.kinds,
-            records.lines.len(),
-            records.ends.len(),
-            counts,
-            lowests,
-            figures,
-            at,
-            out,
-        );
+    match r.code {
+        0 => put_agreed(input.postings.kinds, input.records, notes, at, out),
+        1..=9 => put_refused(refusal_of(input.tops, r), at, out),
+        _ => put_departs(input, notes.figures, r, at, out),
     }
-    if r.code < 10 {
-        let refused = refusal_of(tops, r);
-        return put_refused(refused, at, out);
-    }
-    put_departs(postings, records, tops, figures, r, at, out)
 }
 
 // The report of any answer, printed. It is counted first, on no bytes of the slice.
-fn print_answer(
-    postings: Postings,
-    records: Records,
-    tops: &[u8],
-    counts: &[usize],
-    lowests: &[usize],
-    figures: &[i64],
-    r: Answer,
-    out: &mut [u8],
-) -> Option<usize>
-    requires { Prepared postings.kinds.now postings.firsts.now postings.seconds.now postings.amounts.now records.lines.now records.ends.now tops.now counts.now lowests.now figures.now r }
-    ensures value { result ≡ answer_printed (answer_text postings.entry.kinds.now postings.entry.firsts.now postings.entry.seconds.now postings.entry.amounts.now records.entry.lines.now records.entry.ends.now tops.now r) out.old }
-    ensures out_after { out.new ≡ slice_printed (answer_text postings.entry.kinds.now postings.entry.firsts.now postings.entry.seconds.now postings.entry.amounts.now records.entry.lines.now records.entry.ends.now tops.now r) out.old }
+fn print_answer(input: Input, notes: Notes, r: Answer, out: &mut [u8]) -> Option<usize>
+    requires { Prepared input.postings.kinds.now input.postings.firsts.now input.postings.seconds.now input.postings.amounts.now input.records.lines.now input.records.ends.now input.tops.now notes.counts.now notes.lowests.now notes.figures.now r }
+    ensures value { result ≡ answer_printed (answer_text input.entry.postings.kinds.now input.entry.postings.firsts.now input.entry.postings.seconds.now input.entry.postings.amounts.now input.entry.records.lines.now input.entry.records.ends.now input.entry.tops.now r) out.old }
+    ensures out_after { out.new ≡ slice_printed (answer_text input.entry.postings.kinds.now input.entry.postings.firsts.now input.entry.postings.seconds.now input.entry.postings.amounts.now input.entry.records.lines.now input.entry.records.ends.now input.entry.tops.now r) out.old }
 {
-    let needed = put_answer(
-        postings,
-        records,
-        tops,
-        counts,
-        lowests,
-        figures,
-        r,
-        0,
-        &mut out[0..0],
-    );
+    let needed = put_answer(input, notes, r, 0, &mut out[0..0]);
     if out.len() < needed {
         return None;
     }
-    let end = put_answer(postings, records, tops, counts, lowests, figures, r, 0, out);
-    Some(end)
+    Some(put_answer(input, notes, r, 0, out))
 }
 
-// What each site lacks, and the figures of all records.
-fn note_all(
-    postings: Postings,
-    records: Records,
-    marks: &mut [u8],
-    counts: &mut [usize],
-    lowests: &mut [usize],
-    figures: &mut [i64],
-)
-    requires { Ready postings.kinds.now postings.firsts.now postings.seconds.now postings.amounts.now records.lines.now records.ends.now (length marks.old) (length counts.old) (length lowests.old) (length figures.old) }
-    ensures { Noted postings.entry.kinds.now postings.entry.firsts.now postings.entry.seconds.now postings.entry.amounts.now records.entry.lines.now records.entry.ends.now counts.new lowests.new figures.new }
-{
-    note_lacked(records, postings.kinds.len(), marks, counts, lowests);
-    figures_all(postings, records, figures);
-}
-
-// The same where the report needs it: where the records were not refused.
+// What each site lacks, and the figures of all records, where the report needs them: where the records were not refused.
 fn prepare(
     code: u8,
     postings: Postings,
@@ -253,43 +180,42 @@ fn prepare(
     requires { Accepted code → Ready postings.kinds.now postings.firsts.now postings.seconds.now postings.amounts.now records.lines.now records.ends.now (length marks.old) (length counts.old) (length lowests.old) (length figures.old) }
     ensures { Accepted code → Noted postings.entry.kinds.now postings.entry.firsts.now postings.entry.seconds.now postings.entry.amounts.now records.entry.lines.now records.entry.ends.now counts.new lowests.new figures.new }
 {
-    if code == 0 {
-        note_all(postings, records, marks, counts, lowests, figures);
-        return;
+    if code == 0 || 10 <= code {
+        note_lacked(records, postings.kinds.len(), marks, counts, lowests);
+        figures_all(postings, records, figures);
     }
-    if code < 10 {
-        return;
-    }
-    note_all(postings, records, marks, counts, lowests, figures);
 }
 
 // The audit's report of what was handed over. The slices lent to work in hold anything after it.
 pub fn report(
     matrix: u16,
-    postings: Postings,
-    records: Records,
-    tops: &[u8],
+    input: Input,
     marks: &mut [u8],
     places: &mut [u32],
     ahead: &mut [u32],
     figures: &mut [i64],
     out: &mut [u8],
 ) -> Option<usize>
-    requires { (length records.lines.now ≤ 458_759) × (length records.ends.now ≤ length tops.now) × (448 ≤ length figures.old) }
-    ensures value { result ≡ answer_printed (report_text matrix postings.entry.kinds.now postings.entry.firsts.now postings.entry.seconds.now postings.entry.amounts.now records.entry.lines.now records.entry.ends.now tops.now (length marks.old) (length places.old) (length ahead.old)) out.old }
-    ensures out_after { out.new ≡ slice_printed (report_text matrix postings.entry.kinds.now postings.entry.firsts.now postings.entry.seconds.now postings.entry.amounts.now records.entry.lines.now records.entry.ends.now tops.now (length marks.old) (length places.old) (length ahead.old)) out.old }
+    requires { (length input.records.lines.now ≤ 458_759) × (length input.records.ends.now ≤ length input.tops.now) × (448 ≤ length figures.old) }
+    ensures value { result ≡ answer_printed (report_text matrix input.entry.postings.kinds.now input.entry.postings.firsts.now input.entry.postings.seconds.now input.entry.postings.amounts.now input.entry.records.lines.now input.entry.records.ends.now input.entry.tops.now (length marks.old) (length places.old) (length ahead.old)) out.old }
+    ensures out_after { out.new ≡ slice_printed (report_text matrix input.entry.postings.kinds.now input.entry.postings.firsts.now input.entry.postings.seconds.now input.entry.postings.amounts.now input.entry.records.lines.now input.entry.records.ends.now input.entry.tops.now (length marks.old) (length places.old) (length ahead.old)) out.old }
 {
     let mut counts = [0; SITES];
     let mut lowests = [0; SITES];
-    let r = audit_records(matrix, postings, records, marks, places, ahead);
+    let r = audit_records(matrix, input.postings, input.records, marks, places, ahead);
     prepare(
         r.code,
-        postings,
-        records,
+        input.postings,
+        input.records,
         marks,
         &mut counts,
         &mut lowests,
         figures,
     );
-    print_answer(postings, records, tops, &counts, &lowests, figures, r, out)
+    let notes = Notes {
+        counts: &counts,
+        lowests: &lowests,
+        figures,
+    };
+    print_answer(input, notes, r, out)
 }

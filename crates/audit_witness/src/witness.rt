@@ -14,14 +14,15 @@ use audit_rule::{Postings, Records};
 use posting::{ACCOUNTS, CALL, Posting, RATE, TRADE, net_of_all};
 use printer::print::{put_number, put_text};
 
-// The records of sites as their files hold them: beside them the number of each file's first line that is no heading.
+// What is audited, as its files hold it: the postings, the records of sites, and the number of each site's first line that is no heading.
 #[derive(Clone, Copy)]
-pub struct SiteFiles<'a> {
+pub struct Input<'a> {
+    pub postings: Postings<'a>,
     pub records: Records<'a>,
     pub tops: &'a [u8],
 }
 
-impl<'a> SiteFiles<'a> {
+impl<'a> Input<'a> {
     // The line of site p's file that names a posting.
     fn line_number(self, p: usize, x: usize) -> usize
         requires { Filed self.records.lines.now self.records.ends.now self.tops.now × (p < length self.records.ends.now) × (x < 65_536) }
@@ -148,99 +149,69 @@ fn put_pair(postings: Postings, x: usize, y: usize, at: usize, out: &mut [u8]) -
 }
 
 // A posting and the line of a site's file that names it.
-fn put_stands(
-    kinds: &[u8],
-    files: SiteFiles,
-    p: usize,
-    x: usize,
-    at: usize,
-    out: &mut [u8],
-) -> usize
-    requires { Filed files.records.lines.now files.records.ends.now files.tops.now × (length kinds.now ≤ 65_536) × (p < length files.records.ends.now) × (x < length kinds.now) }
-    ensures { Put (stands_words kinds.now files.entry.records.lines.now files.entry.records.ends.now files.entry.tops.now p x) at out.old out.new result }
+fn put_stands(input: Input, p: usize, x: usize, at: usize, out: &mut [u8]) -> usize
+    requires { Filed input.records.lines.now input.records.ends.now input.tops.now × (length input.postings.kinds.now ≤ 65_536) × (p < length input.records.ends.now) × (x < length input.postings.kinds.now) }
+    ensures { Put (stands_words input.entry.postings.kinds.now input.entry.records.lines.now input.entry.records.ends.now input.entry.tops.now p x) at out.old out.new result }
 {
-    let line = files.line_number(p, x);
-    let a = put_posting(kinds, x, at, out);
+    let line = input.line_number(p, x);
+    let a = put_posting(input.postings.kinds, x, at, out);
     let b = put_text(b" (line ", a, out);
     let c = put_number(line, b, out);
     put_text(b")", c, out)
 }
 
 // What a site booked, and its line.
-fn put_booked(
-    kinds: &[u8],
-    files: SiteFiles,
-    p: usize,
-    x: usize,
-    at: usize,
-    out: &mut [u8],
-) -> usize
-    requires { Filed files.records.lines.now files.records.ends.now files.tops.now × (length kinds.now ≤ 65_536) × (p < length files.records.ends.now) × (x < length kinds.now) }
-    ensures { Put (booked_words kinds.now files.entry.records.lines.now files.entry.records.ends.now files.entry.tops.now p x) at out.old out.new result }
+fn put_booked(input: Input, p: usize, x: usize, at: usize, out: &mut [u8]) -> usize
+    requires { Filed input.records.lines.now input.records.ends.now input.tops.now × (length input.postings.kinds.now ≤ 65_536) × (p < length input.records.ends.now) × (x < length input.postings.kinds.now) }
+    ensures { Put (booked_words input.entry.postings.kinds.now input.entry.records.lines.now input.entry.records.ends.now input.entry.tops.now p x) at out.old out.new result }
 {
     let a = put_text(b"Site ", at, out);
     let b = put_number(p, a, out);
     let c = put_text(b" booked ", b, out);
-    put_stands(kinds, files, p, x, c, out)
+    put_stands(input, p, x, c, out)
 }
 
 // A site has one posting ahead of another.
-fn put_ahead(
-    kinds: &[u8],
-    files: SiteFiles,
-    p: usize,
-    x: usize,
-    y: usize,
-    at: usize,
-    out: &mut [u8],
-) -> usize
-    requires { Filed files.records.lines.now files.records.ends.now files.tops.now × (length kinds.now ≤ 65_536) × (p < length files.records.ends.now) × (x < length kinds.now) × (y < length kinds.now) }
-    ensures { Put (ahead_words kinds.now files.entry.records.lines.now files.entry.records.ends.now files.entry.tops.now p x y) at out.old out.new result }
+fn put_ahead(input: Input, p: usize, x: usize, y: usize, at: usize, out: &mut [u8]) -> usize
+    requires { Filed input.records.lines.now input.records.ends.now input.tops.now × (length input.postings.kinds.now ≤ 65_536) × (p < length input.records.ends.now) × (x < length input.postings.kinds.now) × (y < length input.postings.kinds.now) }
+    ensures { Put (ahead_words input.entry.postings.kinds.now input.entry.records.lines.now input.entry.records.ends.now input.entry.tops.now p x y) at out.old out.new result }
 {
-    let a = put_booked(kinds, files, p, x, at, out);
+    let a = put_booked(input, p, x, at, out);
     let b = put_text(b" ahead of ", a, out);
-    let c = put_stands(kinds, files, p, y, b, out);
+    let c = put_stands(input, p, y, b, out);
     put_text(b".\n", c, out)
 }
 
 // A site has one posting without another.
-fn put_without(
-    kinds: &[u8],
-    files: SiteFiles,
-    p: usize,
-    x: usize,
-    y: usize,
-    at: usize,
-    out: &mut [u8],
-) -> usize
-    requires { Filed files.records.lines.now files.records.ends.now files.tops.now × (length kinds.now ≤ 65_536) × (p < length files.records.ends.now) × (x < length kinds.now) × (y < length kinds.now) }
-    ensures { Put (without_words kinds.now files.entry.records.lines.now files.entry.records.ends.now files.entry.tops.now p x y) at out.old out.new result }
+fn put_without(input: Input, p: usize, x: usize, y: usize, at: usize, out: &mut [u8]) -> usize
+    requires { Filed input.records.lines.now input.records.ends.now input.tops.now × (length input.postings.kinds.now ≤ 65_536) × (p < length input.records.ends.now) × (x < length input.postings.kinds.now) × (y < length input.postings.kinds.now) }
+    ensures { Put (without_words input.entry.postings.kinds.now input.entry.records.lines.now input.entry.records.ends.now input.entry.tops.now p x y) at out.old out.new result }
 {
-    let a = put_booked(kinds, files, p, x, at, out);
+    let a = put_booked(input, p, x, at, out);
     let b = put_text(b" without ", a, out);
-    let c = put_posting(kinds, y, b, out);
+    let c = put_posting(input.postings.kinds, y, b, out);
     put_text(b".\n", c, out)
 }
 
 // What is found of the pair.
-fn put_finding(kinds: &[u8], files: SiteFiles, r: Answer, at: usize, out: &mut [u8]) -> usize
-    requires { Filed files.records.lines.now files.records.ends.now files.tops.now × Told kinds.now files.records.ends.now r }
-    ensures { Put (finding_words kinds.now files.entry.records.lines.now files.entry.records.ends.now files.entry.tops.now r) at out.old out.new result }
+fn put_finding(input: Input, r: Answer, at: usize, out: &mut [u8]) -> usize
+    requires { Filed input.records.lines.now input.records.ends.now input.tops.now × Told input.postings.kinds.now input.records.ends.now r }
+    ensures { Put (finding_words input.entry.postings.kinds.now input.entry.records.lines.now input.entry.records.ends.now input.entry.tops.now r) at out.old out.new result }
 {
     let x = r.first;
     let y = r.second;
     match r.code {
         CROSSED => {
-            let a = put_ahead(kinds, files, r.here, x, y, at, out);
-            put_ahead(kinds, files, r.there, y, x, a, out)
+            let a = put_ahead(input, r.here, x, y, at, out);
+            put_ahead(input, r.there, y, x, a, out)
         }
         MISSING => {
-            let a = put_without(kinds, files, r.here, y, x, at, out);
-            put_ahead(kinds, files, r.there, x, y, a, out)
+            let a = put_without(input, r.here, y, x, at, out);
+            put_ahead(input, r.there, x, y, a, out)
         }
         _ => {
-            let a = put_without(kinds, files, r.here, x, y, at, out);
-            let b = put_without(kinds, files, r.there, y, x, a, out);
+            let a = put_without(input, r.here, x, y, at, out);
+            let b = put_without(input, r.there, y, x, a, out);
             put_text(b"No site booked both.\n", b, out)
         }
     }
@@ -265,17 +236,11 @@ fn put_before(tops: &[u8], r: Answer, at: usize, out: &mut [u8]) -> usize
 }
 
 // The pair that shows that the records do not agree.
-pub fn put_witness(
-    postings: Postings,
-    files: SiteFiles,
-    r: Answer,
-    at: usize,
-    out: &mut [u8],
-) -> usize
-    requires { Filed files.records.lines.now files.records.ends.now files.tops.now × Told postings.kinds.now files.records.ends.now r × Fields postings.kinds.now postings.firsts.now postings.seconds.now postings.amounts.now }
-    ensures { Put (witness_words postings.entry.kinds.now postings.entry.firsts.now postings.entry.seconds.now postings.entry.amounts.now files.entry.records.lines.now files.entry.records.ends.now files.entry.tops.now r) at out.old out.new result }
+pub fn put_witness(input: Input, r: Answer, at: usize, out: &mut [u8]) -> usize
+    requires { Filed input.records.lines.now input.records.ends.now input.tops.now × Told input.postings.kinds.now input.records.ends.now r × Fields input.postings.kinds.now input.postings.firsts.now input.postings.seconds.now input.postings.amounts.now }
+    ensures { Put (witness_words input.entry.postings.kinds.now input.entry.postings.firsts.now input.entry.postings.seconds.now input.entry.postings.amounts.now input.entry.records.lines.now input.entry.records.ends.now input.entry.tops.now r) at out.old out.new result }
 {
-    let a = put_finding(postings.kinds, files, r, at, out);
-    let b = put_pair(postings, r.first, r.second, a, out);
-    put_before(files.tops, r, b, out)
+    let a = put_finding(input, r, at, out);
+    let b = put_pair(input.postings, r.first, r.second, a, out);
+    put_before(input.tops, r, b, out)
 }

@@ -2,17 +2,14 @@
 -- Assumes nothing.
 use native.Mathlib.Omega.{arith}
 use Rattle.printer.proofs.Writing.{too_short, written}
-use Rattle.audit_report.specs.Report.{answer_text}
 use Rattle.audit_report.proofs.print_answer.Goals as goal
 
 pub returns-then-out-needed : goal.returns-then-out-needed
 returns-then-out-needed c =
-    let a = c.args in
-    let p = too_short (answer_text a.postings.kinds.now a.postings.firsts.now a.postings.seconds.now a.postings.amounts.now a.records.lines.now a.records.ends.now a.tops.now a.r) a.out.now _ _ c.put_answer-needed.ensures c.if-out-needed.true in
+    let p = too_short _ c.args.out.now _ _ c.put_answer-needed.ensures c.if-out-needed.true in
     record { value = p.0; out_after = p.1.0 }
 
 pub returns : goal.returns
 returns c =
-    let a = c.args in
-    let p = written (answer_text a.postings.kinds.now a.postings.firsts.now a.postings.seconds.now a.postings.amounts.now a.records.lines.now a.records.ends.now a.tops.now a.r) a.out.now _ _ c.put_answer-needed.ensures _ _ (omega (arith, c.well_formed)) c.if-out-needed.false c.put_answer-end.ensures in
+    let p = written _ c.args.out.now _ _ c.put_answer-needed.ensures _ _ (omega (arith, c.well_formed)) c.if-out-needed.false c.put_answer.ensures in
     record { value = p.0; out_after = p.1.0 }

@@ -12,12 +12,6 @@ pub loop-p-init : goal.loop-p-init
 unfolding lacked_lines
 loop-p-init c = (omega arith, nothing_put c.args.at c.args.out.now)
 
-pub bounds-counts-p : goal.bounds-counts-p
-bounds-counts-p c = omega (arith, c.loop-p-test.true, c.requires.counts_room)
-
-pub bounds-lowests-p : goal.bounds-lowests-p
-bounds-lowests-p c = omega (arith, c.loop-p-test.true, c.requires.lowests_room)
-
 pub put_lack-place-requires : goal.put_lack-place-requires
 put_lack-place-requires c = c.requires.known c.loop-p.p c.loop-p-test.true
 
@@ -32,4 +26,4 @@ pub returns : goal.returns
 returns c =
     let a = c.args in
     let e : c.loop-p.p ≡ a.n = omega (arith, c.loop-p-test.false, c.loop-p.invariant.0) in
-    put_as (ap (lacked_lines a.kinds.now a.counts.now a.lowests.now) e) c.loop-p.invariant.1
+    put_as (ap (lacked_lines a.kinds.now a.notes.counts.now a.notes.lowests.now) e) c.loop-p.invariant.1

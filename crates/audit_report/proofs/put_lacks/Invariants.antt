@@ -6,4 +6,4 @@ use Rattle.audit_report.specs.Needs.{lacked_lines}
 use Rattle.audit_report.proofs.put_lacks.Given as goal
 
 abbrev pub invariant-loop-p : goal.invariant-loop-p
-invariant-loop-p l = (l.p ≤ l.n) × Put (lacked_lines l.kinds l.counts l.lowests l.p) l.at l.initial.out l.out l.place
+invariant-loop-p l = (l.p ≤ l.n) × Put (lacked_lines l.kinds l.notes.counts.now l.notes.lowests.now l.p) l.at l.initial.out l.out l.place

@@ -14,4 +14,4 @@ returns c =
     (then_put c.put_text-c.ensures
     (then_put c.put_number-d.ensures
     (then_put c.put_text-e.ensures
-    (then_put (put_as (ap decimal c.count_postings-many.ensures) c.put_number-f.ensures) c.put_text.ensures)))))
+    (then_put (put_as (ap decimal c.count_postings.ensures) c.put_number-f.ensures) c.put_text.ensures)))))

@@ -7,7 +7,7 @@ use lib.ListN.{get_or}
 use Rattle.audit_rule.specs.Handed.{start_of, record_of, place_of}
 use Rattle.audit_witness.specs.Witness.{line_number}
 use Rattle.audit_witness.proofs.Lines.{place_few}
-use Rattle.audit_witness.proofs.witness.SiteFiles.line_number.Goals as goal
+use Rattle.audit_witness.proofs.witness.Input.line_number.Goals as goal
 
 pub overflow_add-result : goal.overflow_add-result
 overflow_add-result c =
