@@ -32,7 +32,10 @@ fn parse(line: &str) -> Option<Use> {
     let first = words.next()?.to_string();
     let declared = first == "declared";
     let module = if declared {
-        words.next()?.to_string()
+        // the file of src/ that declares the type stands before it
+        words
+            .find(|word| word.starts_with(char::is_uppercase))?
+            .to_string()
     } else {
         first
     };
