@@ -1,5 +1,5 @@
 -- What the loops over a file's lines keep: all that the file does is what its lines have done, and what those that are left will do.
--- Rests on Files, Room, Steps and FileLaws. Assumes nothing.
+-- Rests on Files, Steps and FileLaws. Assumes nothing.
 use Prim.Native.Nat.{ℕ, suc, ◌+◌, ◌-◌, ◌<◌, ◌≤◌}
 use mathlib.Core.Path.{◌≡◌, refl, sym, ap, ◌∙◌}
 use mathlib.Core.Logic.{inl, inr}

@@ -1,5 +1,5 @@
 // What a line of a file says: a posting's number, or all its fields.
-// Rests on posting for kinds. Nothing but the bytes of the line is looked at.
+// Rests on posting for kinds, on audit_rule. Nothing but the bytes of the line is looked at.
 ghost use Rattle.std.specs.Prelude.{◌≡◌, ◌==◌, ◌<◌, ◌≤◌, IfSome, position, unwrap_or};
 ghost use Rattle.audit_rule.specs.Audit.{up_to};
 ghost use Rattle.audit_files.specs.Entries.{past, badly_begun, number_of, kind_of, no_number, malformed, fields_after, entry_of};

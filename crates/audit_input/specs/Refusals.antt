@@ -1,5 +1,5 @@
--- The refusals that the code declares, by their numbers, and what its searches and its judge answer: nothing, where Input has a number that stands for nothing.
--- Rests on Input.
+-- The refusals that the code declares, by their numbers, and what its searches and its judge answer: nothing, where other definitions have a number that stands for nothing.
+-- Rests on the declared types.
 use Rattle.std.specs.Prelude.{ℕ, cond, Option, Some, None, Result, Ok, Err, eqb, ltb}
 use Rattle.audit_input.specs.declared.Answer.{Answer}
 use Rattle.audit_input.specs.declared.Refusal.{Refusal}

@@ -16,9 +16,6 @@ pub record Left (q : ℕ → Bool) (n low p : ℕ) : Type 0 where
   pub got : low ≢ n → low ≡ lowest q n
   pub rest : low ≡ n → Seeking q n p
 
-pub left_start : {q : ℕ → Bool} {n : ℕ} → Left q n n 0
-left_start = record { got = λ d. absurd (d refl); rest = λ e. seek_start }
-
 module _ {q : ℕ → Bool} {n low p : ℕ} (g : Left q n low p) where
   pub left_next : p < n → Left q n (taken n p (q p) low) (p + 1)
   unfolding taken

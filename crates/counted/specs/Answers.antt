@@ -1,5 +1,5 @@
 -- What a function over a file and a slice answers: a count, and the slice.
--- Rests on printer.
+-- Rests on nothing of the repository.
 use Rattle.std.specs.Prelude.{ℕ, List, Option, Some, None}
 
 -- the answer where there is no count: 2^64 − 1, which is no slice's length

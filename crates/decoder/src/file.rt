@@ -1,5 +1,5 @@
 // A run file's header and events, read from bytes: whether it is well formed, and the call of each event.
-// Rests on steps for calls, site for the setup, sets for wider numbers. Past the end of the bytes zeros are read.
+// Rests on steps for calls, site for the setup. Past the end of the bytes zeros are read.
 ghost use Rattle.std.specs.Prelude.{◌<◌, ◌≤◌, ◌≡◌, ◌&&◌, length};
 ghost use Rattle.decoder.specs.RunFile.{byte_at, pair, quad, has_mark, header_ok, setup_of, event_count, length_ok, known_code, zero_at, unused_ok, cut_ok, event_at, event_ok, events_ok, well_formed, cut_of, offer_of, receive_of, call_of, call_at};
 

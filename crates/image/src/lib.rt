@@ -1,5 +1,5 @@
 // A board as a row of numbers: every number of Board in the order of its fields. A test changes one of them, and compares what a call leaves.
-// Rests on machine, flight, site, posting and sets.
+// Rests on its modules reading and writing, on machine, flight, site, posting and sets.
 #![tactic(auto)]
 
 ghost use Rattle.std.specs.Prelude.{◌≡◌, cond, ltb};

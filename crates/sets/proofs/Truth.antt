@@ -2,7 +2,7 @@
 -- Rests on nothing of the repository. Assumes nothing.
 use mathlib.Core.Path.{◌≡◌, refl, sym, ◌∙◌}
 use mathlib.Core.Logic.{◌⊎◌, inl, inr}
-use mathlib.Core.Bool.{Bool, true, false, ◌&&◌, ◌||◌, not, beq, true≢false, false≢true}
+use mathlib.Core.Bool.{Bool, true, false, ◌&&◌, ◌||◌, not, true≢false, false≢true}
 
 pub test : (b : Bool) → (b ≡ true) ⊎ (b ≡ false)
 test true = inl refl
@@ -55,20 +55,3 @@ or_neither false b e = (refl, e)
 pub not_flips : (b : Bool) → not b ≡ true → b ≡ false
 not_flips true e = absurd (false≢true e)
 not_flips false e = refl
-
--- ---- a test that is compared with false
-
--- what the code's `so == false` says of a test, where `so` is its answer
-pub failed : {so x : Bool} → so ≡ x → beq so false ≡ true → x ≡ false
-failed {so} e t = sym e ∙ go so t
-  where
-    go : (so : Bool) → beq so false ≡ true → so ≡ false
-    go true t = absurd (never t refl)
-    go false t = refl
-
-pub passed : {so x : Bool} → so ≡ x → beq so false ≡ false → x ≡ true
-passed {so} e f = sym e ∙ go so f
-  where
-    go : (so : Bool) → beq so false ≡ false → so ≡ true
-    go true f = refl
-    go false f = absurd (never refl f)

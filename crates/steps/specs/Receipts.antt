@@ -1,5 +1,5 @@
 -- A receipt whose posting, sender and receiver have places.
--- Rests on the declared Receipt.
+-- Rests on the declared Receipt, on site and sets.
 use Rattle.std.specs.Prelude.{◌<◌}
 use Rattle.sets.specs.Sets.{capacity}
 use Rattle.site.specs.Sites.{sites}

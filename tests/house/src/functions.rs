@@ -18,7 +18,28 @@ struct Call {
 }
 
 /// What no crate here declares, and what does not divide: of the language, and of its library std.
-const OUTSIDE: [&str; 3] = ["len", "leading_zeros", "wrapping_sub_u64"];
+const OUTSIDE: [&str; 20] = [
+    "all",
+    "any",
+    "copied",
+    "default",
+    "enumerate",
+    "from",
+    "get",
+    "is_some",
+    "iter",
+    "iter_mut",
+    "leading_zeros",
+    "len",
+    "map",
+    "position",
+    "rev",
+    "take",
+    "unsigned_abs",
+    "unwrap_or",
+    "unwrap_or_default",
+    "wrapping_sub",
+];
 
 /// A line of code without its comment.
 fn code(line: &str) -> &str {
@@ -86,11 +107,12 @@ fn last_word(text: &str) -> (&str, &str) {
     text.split_at(start)
 }
 
-/// What a body calls: each word before a parenthesis.
+/// What a body calls: each word before a parenthesis, but for what makes a value of an enum.
 fn calls(body: &str) -> Vec<Call> {
     let opens = body.match_indices('(').map(|(at, _)| &body[..at]);
     let parts = opens.map(last_word);
-    let named = parts.filter(|(_, name)| !name.is_empty());
+    // a name that begins with a capital makes a value of an enum
+    let named = parts.filter(|(_, name)| name.starts_with(|c: char| c.is_lowercase() || c == '_'));
     named
         .map(|(rest, name)| Call {
             before: rest
