@@ -1,5 +1,5 @@
 // The words of a pair that shows that records do not agree, written into a lent slice: a place past it is counted and nothing is put there.
-// Rests on audit_input for the answer, on audit_files for kinds in words, on audit_pair for places in a record, on posting, amounts and printer.
+// Rests on audit_input for the answer, on audit_files for kinds in words, on audit_pair for places in a record, on audit_rule for postings and records, on posting, amounts and printer.
 ghost use Rattle.std.specs.Prelude.{◌≡◌, ◌<◌, ◌≤◌, ◌++◌, length};
 ghost use Rattle.printer.specs.Puts.{Put};
 ghost use Rattle.audit_pair.specs.Pair.{Fields};

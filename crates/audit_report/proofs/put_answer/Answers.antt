@@ -1,7 +1,6 @@
 -- `put_answer` meets its contract.
 -- Rests on Texts. Assumes nothing.
 use mathlib.Core.Logic.{inl, inr}
-use native.Mathlib.Omega.{arith}
 use borrow.Author.Rules.{rules}
 use Rattle.printer.proofs.Writing.{put_as}
 use Rattle.audit_report.proofs.Texts.{agreed_as, refused_as, departs_as}

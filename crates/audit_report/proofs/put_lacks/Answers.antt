@@ -1,6 +1,5 @@
 -- `put_lacks` meets its contract. The loop's invariant: the lines of the first sites are put.
 -- Assumes nothing.
-use Prim.Native.Nat.{◌-◌}
 use mathlib.Core.Path.{◌≡◌, ap}
 use native.Mathlib.Numerals.{add-one}
 use native.Mathlib.Omega.{arith}

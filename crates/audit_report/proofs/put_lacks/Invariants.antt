@@ -1,6 +1,6 @@
 -- `put_lacks` meets its contract. The loop's invariant: the lines of the first sites are put.
 -- Assumes nothing.
-use Prim.Native.Nat.{◌-◌, ◌≤◌}
+use Prim.Native.Nat.{◌≤◌}
 use Rattle.printer.specs.Puts.{Put}
 use Rattle.audit_report.specs.Needs.{lacked_lines}
 use Rattle.audit_report.proofs.put_lacks.Given as goal

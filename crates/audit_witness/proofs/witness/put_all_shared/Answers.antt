@@ -1,6 +1,5 @@
 -- `put_all_shared` meets its contract. The loop's invariant: those of the first k accounts that both postings touch are put.
 -- Assumes nothing.
-use Prim.Native.Nat.{◌-◌}
 use native.Mathlib.Numerals.{add-one}
 use native.Mathlib.Omega.{arith}
 use mathlib.Core.Path.{◌≡◌, ap}

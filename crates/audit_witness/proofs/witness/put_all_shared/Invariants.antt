@@ -1,6 +1,6 @@
 -- `put_all_shared` meets its contract. The loop's invariant: those of the first k accounts that both postings touch are put.
 -- Assumes nothing.
-use Prim.Native.Nat.{◌≤◌, ◌-◌}
+use Prim.Native.Nat.{◌≤◌}
 use Rattle.printer.specs.Puts.{Put}
 use Rattle.posting.specs.Kinds.{accounts}
 use Rattle.audit_witness.specs.Witness.{shared_accounts}
