@@ -53,10 +53,17 @@ fn figures_of(postings: Postings, lines: &[u16], out: &mut [i64])
 fn figures_refusal(postings: Postings, lines: &[u16], room: usize) -> Option<Refusal>
     ensures { code_of result ≡ figures_code postings.entry.kinds.now postings.entry.firsts.now postings.entry.seconds.now postings.entry.amounts.now lines.now room }
 {
-    if fields_long(postings) && lines.len() <= MOST_LINES && FIGURES <= room {
+    let Postings {
+        kinds,
+        firsts,
+        seconds,
+        amounts,
+    } = postings;
+    let long = fields_long(kinds.len(), firsts.len(), seconds.len(), amounts.len());
+    if long && lines.len() <= MOST_LINES && FIGURES <= room {
         if first_unlawful(postings).is_some() {
             Some(Refusal::Fields)
-        } else if unknown_line(postings.kinds, lines).is_some() {
+        } else if unknown_line(kinds, lines).is_some() {
             Some(Refusal::Unknown)
         } else {
             None

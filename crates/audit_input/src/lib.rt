@@ -123,14 +123,10 @@ fn ends_ok(records: Records) -> bool
 
 // Whether there are at most 65,536 numbers, and each field in its slice for each.
 #[tactic(auto, unfolding(crate::specs::Input::fields_long))]
-pub fn fields_long(postings: Postings) -> bool
-    ensures { result ≡ fields_long (length postings.entry.kinds.now) (length postings.entry.firsts.now) (length postings.entry.seconds.now) (length postings.entry.amounts.now) }
+pub fn fields_long(kinds: usize, firsts: usize, seconds: usize, amounts: usize) -> bool
+    ensures { result ≡ fields_long kinds firsts seconds amounts }
 {
-    let n = postings.kinds.len();
-    n <= POSTINGS
-        && postings.firsts.len() == n
-        && postings.seconds.len() == n
-        && postings.amounts.len() == n
+    kinds <= POSTINGS && firsts == kinds && seconds == kinds && amounts == kinds
 }
 
 // Whether the slices lent have room.
@@ -260,14 +256,18 @@ fn sizes_refusal(
 ) -> Option<Refusal>
     ensures { code_of result ≡ sizes_code matrix postings.entry.kinds.now postings.entry.firsts.now postings.entry.seconds.now postings.entry.amounts.now records.entry.lines.now records.entry.ends.now marks places ahead }
 {
+    let Postings {
+        kinds,
+        firsts,
+        seconds,
+        amounts,
+    } = postings;
+    let long = fields_long(kinds.len(), firsts.len(), seconds.len(), amounts.len());
     if !sites_ok(records.ends) {
         Some(Refusal::Sites)
     } else if !matrix_ok(matrix) {
         Some(Refusal::Matrix)
-    } else if fields_long(postings)
-        && ends_ok(records)
-        && lent_long(postings.kinds.len(), marks, places, ahead)
-    {
+    } else if long && ends_ok(records) && lent_long(kinds.len(), marks, places, ahead) {
         None
     } else {
         Some(Refusal::Sizes)

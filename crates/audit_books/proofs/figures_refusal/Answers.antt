@@ -7,5 +7,5 @@ use Rattle.audit_books.proofs.figures_refusal.Goals as goal
 pub first_unlawful-requires : goal.first_unlawful-requires
 first_unlawful-requires c =
     let v = c.args.postings in
-    let s = fields_long_says (length v.kinds.now) (length v.firsts.now) (length v.seconds.now) (length v.amounts.now) (sym c.fields_long.ensures ∙ c.if-fields_long.true) in
+    let s = fields_long_says (length v.kinds.now) (length v.firsts.now) (length v.seconds.now) (length v.amounts.now) (sym c.fields_long-long.ensures ∙ c.if-long.true) in
     record { firsts_all = s.1; seconds_all = s.2; amounts_all = s.3 }
