@@ -1,6 +1,6 @@
 -- `read_record` meets its contract.
 -- Rests on Loop. Assumes nothing.
-use Rattle.std.proofs.Common.{◌≡◌, true, get_or, sym, arith, rules}
+use Rattle.std.proofs.Common.{◌≡◌, true, get_or, sym, arith}
 use mathlib.Core.Bool.{true≢false}
 use Rattle.audit_reading.proofs.RowLaws.{rows_below}
 use Rattle.audit_reading.proofs.Loop.{going_start, y_known, going_again, going_breaks}
