@@ -7,7 +7,8 @@ use mathlib.Core.Bool.{Bool, true, false}
 use mathlib.Core.List.{List}
 use native.Mathlib.Omega.{arith}
 use native.Mathlib.Nat.{mul-le-mul}
-use lib.ListN.{length, get_or, length-append}
+use native.Mathlib.Decide.{dec_lt}
+use lib.ListN.{length, get_or, replicate, length-replicate, get_or-replicate, get_or-eq_default, length-append}
 use borrow.Author.Tests.{eq-eqb, ne_eqb}
 use Rattle.posting.specs.declared.Posting.{Posting}
 use Rattle.posting.specs.declared.Table.{Table}
@@ -34,6 +35,16 @@ use Rattle.audit_input.specs.Lawful.{Lawful}
 use Rattle.audit_input.proofs.Accepted.{judged_none}
 use Rattle.audit_records.specs.Audited.{conflicts, answering, audited}
 use Rattle.audit_records.specs.Needs.{shown, PairAt}
+
+-- ---- places before any is given
+
+pub all_zero : (n x : ℕ) → get_or {A = ℕ} (replicate n 0) x 0 ≡ 0
+all_zero n x = elim (dec_lt x n) [
+  | yes h ↦ get_or-replicate {A = ℕ} n x 0 0 h
+  | no h ↦
+      let out : length (replicate {A = ℕ} n 0) ≤ x = omega (arith, h, length-replicate {A = ℕ} n 0) in
+      get_or-eq_default (replicate {A = ℕ} n 0) 0 out
+]
 
 -- ---- how many lines there can be
 

@@ -1,6 +1,6 @@
 -- `read_record` meets its contract.
 -- Rests on Loop. Assumes nothing.
-use Rattle.std.proofs.Common.{get_or, sym, arith}
+use Rattle.std.proofs.Common.{◌≡◌, true, get_or, sym, arith}
 use mathlib.Core.Bool.{true≢false}
 use Rattle.audit_reading.proofs.RowLaws.{rows_below}
 use Rattle.audit_reading.proofs.Loop.{going_start, y_known, going_again, going_breaks}
@@ -44,6 +44,6 @@ pub loop-i-preserved : goal.loop-i-preserved
 loop-i-preserved c =
     let l = c.line_of-line.ensures in
     let e = c.read_line.ensures in
-    let ok = c.if-not-read_line.false in
+    let ok : c.read_line.result ≡ true = cc e.value in
     going_again c.loop-i.invariant c.requires c.from-y.result c.from-y.ensures c.loop-i-test.true
     (rw l at e.value) ok e.seen_after e.places_after (rw l at e.totals_after) (rw l at e.ahead_after) (rw l at (e.counts_after ok)) (rw l at (e.highest_after ok))

@@ -1,12 +1,11 @@
 -- `audit_lawful` meets its contract.
 -- Rests on Lawful. Assumes nothing.
-use Rattle.std.proofs.Common.{refl, ◌∙◌, arith}
-use Rattle.std.proofs.lemmas.Grind.{common_steps}
-use Rattle.audit_records.proofs.Lawful.{lawful_auditable, lawful_agreed, lawful_departs, lawful_pair}
+use Rattle.std.proofs.Common.{length, refl, ◌∙◌}
+use Rattle.audit_records.proofs.Lawful.{all_zero, lawful_auditable, lawful_agreed, lawful_departs, lawful_pair}
 use Rattle.audit_records.proofs.audit_lawful.Goals as goal
 
 pub departure-requires : goal.departure-requires
-departure-requires c = lawful_auditable c.requires _ _ (λ x. grind (arith, common_steps)) c.fill.auto.self refl
+departure-requires c = lawful_auditable c.requires _ _ (λ x. rw (c.fill.ensures.after (λ y e. e)) (all_zero (length c.args.places.now) x)) c.fill.auto.self refl
 
 pub pair_at-requires : goal.pair_at-requires
 pair_at-requires c = lawful_pair c.requires c.in-Some.ensures refl
