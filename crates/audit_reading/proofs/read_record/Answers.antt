@@ -44,6 +44,6 @@ pub loop-i-preserved : goal.loop-i-preserved
 loop-i-preserved c =
     let l = c.line_of-line.ensures in
     let e = c.read_line.ensures in
-    let ok : c.read_line.result ≡ true = cc e.value in
+    let ok : c.read_line.result ≡ true = search in
     going_again c.loop-i.invariant c.requires c.from-y.result c.from-y.ensures c.loop-i-test.true
     (rw l at e.value) ok e.seen_after e.places_after (rw l at e.totals_after) (rw l at e.ahead_after) (rw l at (e.counts_after ok)) (rw l at (e.highest_after ok))

@@ -25,4 +25,4 @@ returns-in-Ok c =
     let v = c.args in
     let p = v.postings in
     let r = v.records in
-    cc (audited_lawful v.matrix p.kinds.now p.firsts.now p.seconds.now p.amounts.now r.lines.now r.ends.now (length v.marks.now) (length v.places.now) (length v.ahead.now) _ refl (judgement_ok _ c.in-Ok.ensures))
+    (search) ∙ audited_lawful v.matrix p.kinds.now p.firsts.now p.seconds.now p.amounts.now r.lines.now r.ends.now (length v.marks.now) (length v.places.now) (length v.ahead.now) _ refl (judgement_ok _ c.in-Ok.ensures)
