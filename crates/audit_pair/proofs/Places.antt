@@ -134,6 +134,30 @@ module _ (i j n : ℕ) (li : i ≤ n) (lj : j ≤ n) where
   first_by (second_alone e a) = rw (le-ltb i n (omega (arith, e)))
   first_by (first_alone e a) = rw (lt-ltb i n a, le-ltb j n (omega (arith, e)))
 
+-- The code by the tests of the places, one law for each end of the tests.
+module _ (x y : ℕ) (l : List ℕ) {i j : ℕ} (ei : i ≡ place_of x l) (ej : j ≡ place_of y l) where
+  pub stands_neither : i ≡ j → 0 ≡ stands x y l
+  unfolding stands
+  stands_neither e = rw (sym ei, sym ej, eqb_yes i j e)
+
+  module _ (d : i ≢ j) where
+    pub stands_second_alone : i ≡ length l → 3 ≡ stands x y l
+    unfolding stands
+    stands_second_alone e = rw (sym ei, sym ej, eqb_no i j d, eqb_yes i (length l) e)
+
+    module _ (di : i ≢ length l) where
+      pub stands_first_alone : j ≡ length l → 4 ≡ stands x y l
+      unfolding stands
+      stands_first_alone e = rw (sym ei, sym ej, eqb_no i j d, eqb_no i (length l) di, eqb_yes j (length l) e)
+
+      pub stands_forth : j ≢ length l → i < j → 1 ≡ stands x y l
+      unfolding stands
+      stands_forth dj h = rw (sym ei, sym ej, eqb_no i j d, eqb_no i (length l) di, eqb_no j (length l) dj, lt-ltb i j h)
+
+      pub stands_back : j ≢ length l → j ≤ i → 2 ≡ stands x y l
+      unfolding stands
+      stands_back dj h = rw (sym ei, sym ej, eqb_no i j d, eqb_no i (length l) di, eqb_no j (length l) dj, le-ltb i j h)
+
 -- Each sort of a site has its code.
 module _ (n : ℕ) (records : ℕ → List ℕ) (x y p : ℕ) where
   abbrev here : Standing (place_of x (records p)) (place_of y (records p)) (length (records p)) (place_at_most x (records p)) (place_at_most y (records p))

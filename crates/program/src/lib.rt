@@ -2,6 +2,8 @@
 // Rests on runfile and statements for all of the work, on reading, on std for writing, of which no contract can say more.
 #![tactic(auto)]
 
+ghost use Rattle.std.specs.Prelude.{◌≤◌, length, IfSome};
+
 use reading::read_full;
 use std::io::Read;
 
@@ -17,31 +19,44 @@ fn write_out(rt: &(impl Print + Eprint), text: &[u8]) {
     }
 }
 
-// What is made of an input, written out. The work writes it into the slice that it is lent, and answers how many bytes it has;
-// of one that the slice is too short for, nothing is written.
-fn print_made<R: Read, F>(rt: &(impl Print + Eprint), from: &mut R, work: F)
-where
-    F: FnOnce(&[u8], &mut [u8]) -> Option<usize>,
-    requires { F.IsAlwaysCallable work }
+// The input at the start of the slice: how many bytes it has. What fails is said on standard error.
+fn read_input<R: Read>(rt: &impl Eprint, from: &mut R, input: &mut [u8]) -> Option<usize>
+    ensures { IfSome result (λ n. n ≤ length input.new) }
 {
-    let mut input = [0; ROOM];
-    let Ok(length) = read_full(from, &mut input) else {
-        let _ = rt.eprintln("The input could not be read; nothing was done.");
-        return;
-    };
-    let mut out = [0; OUTPUT];
-    let made = work(&input[..length], &mut out);
-    if let Some(text) = made.and_then(|count| out.get(..count)) {
-        write_out(rt, text);
+    if let Ok(length) = read_full(from, input) {
+        return Some(length);
+    }
+    let _ = rt.eprintln("The input could not be read; nothing was done.");
+    None
+}
+
+// What was made of an input, written out; of what the slice was too short for, nothing is written.
+fn write_made(rt: &(impl Print + Eprint), made: Option<usize>, out: &[u8])
+    requires { IfSome made (λ n. n ≤ length out.now) }
+{
+    if let Some(count) = made {
+        write_out(rt, &out[..count]);
     }
 }
 
 // The buffer has 65,536 bytes, and no output is longer: theorem output_fits of runfile.
 pub fn print_from<R: Read>(rt: &(impl Print + Eprint), from: &mut R) {
-    print_made(rt, from, runfile::run::run_file);
+    let mut input = [0; ROOM];
+    let Some(length) = read_input(rt, from, &mut input) else {
+        return;
+    };
+    let mut out = [0; OUTPUT];
+    let made = runfile::run::run_file(&input[..length], &mut out);
+    write_made(rt, made, &out);
 }
 
 // The same for the statement of the books; no output is longer than the buffer: theorem statement_fits of statement_laws.
 pub fn state_from<R: Read>(rt: &(impl Print + Eprint), from: &mut R) {
-    print_made(rt, from, statements::statement);
+    let mut input = [0; ROOM];
+    let Some(length) = read_input(rt, from, &mut input) else {
+        return;
+    };
+    let mut out = [0; OUTPUT];
+    let stated = statements::statement(&input[..length], &mut out);
+    write_made(rt, stated, &out);
 }

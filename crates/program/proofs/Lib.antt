@@ -1,0 +1,3 @@
+-- What the proofs of the programs rest on.
+-- Rests on printer.
+mod Made
