@@ -2,10 +2,11 @@
 // Rests on lookup_pairs for pairs, on passes for the pass through a record, on books for figures, on machine for what the arrays show.
 #![tactic(auto)]
 
-ghost use Rattle.std.specs.Prelude.{ℕ, ◌*◌, ◌<◌, ◌≤◌, ◌≡◌, true, cond, length};
+ghost use Rattle.std.specs.Prelude.{ℕ, ◌*◌, ◌<◌, ◌≤◌, ◌≡◌, true, List, cond, length};
 ghost use Rattle.sets.specs.Masks.{has_bit};
 ghost use Rattle.books.specs.Bounds.{Postable};
 ghost use Rattle.site.specs.Sites.{sites};
+ghost use Rattle.arrays.specs.Arrays.{arrays};
 ghost use Rattle.views.specs.Views.{record_in, table_of};
 ghost use Rattle.machine.specs.View.{view};
 ghost use Rattle.machine.specs.Soundness.{is_sound};
@@ -67,7 +68,7 @@ fn gather(board: &Arrays, named: u8, n: u8, figures: &mut [i64]) -> usize
 // A look-up on a sound board at work: its table and the records of the sites named are all that it needs.
 pub fn look_up_at(board: &Arrays, setup: Setup, pairs: &[u8], out: &mut [i64]) -> LookedUp
     requires { (setup.n ≤ sites) × ((p : ℕ) → p < setup.n → Postable (table_of board.now) (record_in board.now p)) }
-    ensures { is_sound (view setup board.now) ≡ true → (result.answer ≡ (looking_up (view setup board.now) pairs.now out.old).answer) × (result.visited ≡ (looking_up (view setup board.now) pairs.now out.old).visited) × (out.new ≡ (looking_up (view setup board.now) pairs.now out.old).slice) }
+    ensures { (sets masks good carried : List ℕ) → is_sound (view setup (arrays sets board.now.counts board.now.bytes board.now.amounts masks good carried)) ≡ true → (result.answer ≡ (looking_up (view setup (arrays sets board.now.counts board.now.bytes board.now.amounts masks good carried)) pairs.now out.old).answer) × (result.visited ≡ (looking_up (view setup (arrays sets board.now.counts board.now.bytes board.now.amounts masks good carried)) pairs.now out.old).visited) × (out.new ≡ (looking_up (view setup (arrays sets board.now.counts board.now.bytes board.now.amounts masks good carried)) pairs.now out.old).slice) }
 {
     let n = setup.n;
     if let Err(refusal) = pairs_fit(pairs, n, out.len()) {

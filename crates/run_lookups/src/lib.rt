@@ -60,7 +60,7 @@ pub fn run_lookup(input: &[u8], pairs: &[u8], out: &mut [i64]) -> u64
 {
     match begin(input) {
         Ok(setup) => look_up_after(input, setup, pairs, out),
-        Err(refusal) => count_or(refusal.number(), 0),
+        Err(not_begun) => count_or(not_begun.refusal.number(), 0),
     }
 }
 
@@ -76,6 +76,6 @@ pub fn lookup_changed(input: &[u8], place: u64, value: u64, pairs: &[u8], out: &
             let looked = look_up(board, pairs, out);
             answer_of(looked)
         }
-        Err(refusal) => count_or(refusal.number(), 0),
+        Err(not_begun) => count_or(not_begun.refusal.number(), 0),
     }
 }

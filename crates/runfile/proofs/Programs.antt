@@ -107,9 +107,9 @@ module _ (setup : Setup) (why : ℕ) (tested : why ≡ first_cause (start_causes
 
 -- ---- how a file begins
 
-pub begun_malformed : (input : List ℕ) → well_formed input ≡ false → record { setup = setup_of input; why = 1 } ≡ begun_by input
+pub begun_malformed : (input : List ℕ) (setup : Setup) → setup ≡ setup_of input → well_formed input ≡ false → record { setup = setup; why = 1 } ≡ begun_by input
 unfolding begun_by
-begun_malformed input f = rw f
+begun_malformed input setup es f = rw (f, es)
 
 pub begun_tested :
     (input : List ℕ) (setup : Setup) (why : ℕ) → setup ≡ setup_of input → well_formed input ≡ true

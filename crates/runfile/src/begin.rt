@@ -8,14 +8,24 @@ use site::Setup;
 use steps::Refusal;
 use whole_board::opening::start_fits;
 
-// How a file begins, of any bytes: the setup of one that runs, else its refusal.
-pub fn begin(input: &[u8]) -> Result<Setup, Refusal>
-    ensures { begun_of input.now result ≡ begun_by input.now }
+// A file that is refused: its setup, and why.
+#[derive(Drop)]
+pub struct NotBegun {
+    pub setup: Setup,
+    pub refusal: Refusal,
+}
+
+// How a file begins, of any bytes: the setup of one that runs; of one that is refused its setup, too, and the refusal.
+pub fn begin(input: &[u8]) -> Result<Setup, NotBegun>
+    ensures { begun_of result ≡ begun_by input.now }
 {
-    if !well_formed(input) {
-        return Err(Refusal::MalformedFile);
-    }
     let setup = setup_of(input);
-    start_fits(setup.n, setup.f, setup.matrix)?;
-    Ok(setup)
+    if !well_formed(input) {
+        let refusal = Refusal::MalformedFile;
+        return Err(NotBegun { setup, refusal });
+    }
+    match start_fits(setup.n, setup.f, setup.matrix) {
+        Ok(()) => Ok(setup),
+        Err(refusal) => Err(NotBegun { setup, refusal }),
+    }
 }

@@ -77,6 +77,6 @@ pub fn run_file(input: &[u8], out: &mut [u8]) -> Option<usize>
 {
     match begin(input) {
         Ok(setup) => run_from(input, setup, out),
-        Err(refusal) => print_refused(refusal.number(), out),
+        Err(not_begun) => print_refused(not_begun.refusal.number(), out),
     }
 }

@@ -87,6 +87,6 @@ pub fn statement(input: &[u8], out: &mut [u8]) -> Option<usize>
 {
     match begin(input) {
         Ok(setup) => state_from(input, setup, out),
-        Err(refusal) => print_refused(refusal.number(), out),
+        Err(not_begun) => print_refused(not_begun.refusal.number(), out),
     }
 }

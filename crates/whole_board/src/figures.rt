@@ -1,10 +1,11 @@
 // The books of a board in a lent slice: of one site, and of all sites, up or down.
 // Rests on machine, views, steps, books, posting and site.
-ghost use Rattle.std.specs.Prelude.{ℕ, ◌<◌, ◌≤◌, ◌≡◌, true, map};
+ghost use Rattle.std.specs.Prelude.{ℕ, ◌<◌, ◌≤◌, ◌≡◌, true, List, map};
 ghost use Rattle.books.specs.Books.{tabulate};
 ghost use Rattle.books.specs.Bounds.{Postable};
 ghost use Rattle.site.specs.declared.Site.{Site};
 ghost use Rattle.site.specs.Sites.{sites};
+ghost use Rattle.arrays.specs.Arrays.{arrays};
 ghost use Rattle.views.specs.Views.{record_in, table_of};
 ghost use Rattle.machine.specs.View.{view};
 ghost use Rattle.machine.specs.Soundness.{is_sound};
@@ -85,7 +86,7 @@ pub fn records_of(board: &Arrays) -> Records
 // The books of all sites, of a sound board at work: its table and records are all that they need.
 pub fn books_all_at(board: &Arrays, setup: Setup, out: &mut [i64]) -> Answer
     requires { (setup.n ≤ sites) × ((p : ℕ) → p < setup.n → Postable (table_of board.now) (record_in board.now p)) }
-    ensures { is_sound (view setup board.now) ≡ true → (result ≡ (showing_all (view setup board.now) out.old).answer) × (out.new ≡ (showing_all (view setup board.now) out.old).slice) × (answer_of result ≡ answer_of (showing_all (view setup board.now) out.old).answer) }
+    ensures { (sets masks good carried : List ℕ) → is_sound (view setup (arrays sets board.now.counts board.now.bytes board.now.amounts masks good carried)) ≡ true → (result ≡ (showing_all (view setup (arrays sets board.now.counts board.now.bytes board.now.amounts masks good carried)) out.old).answer) × (out.new ≡ (showing_all (view setup (arrays sets board.now.counts board.now.bytes board.now.amounts masks good carried)) out.old).slice) × (answer_of result ≡ answer_of (showing_all (view setup (arrays sets board.now.counts board.now.bytes board.now.amounts masks good carried)) out.old).answer) }
 {
     let n = usize::from(setup.n);
     if out.len() < FIGURES * n {

@@ -1,9 +1,10 @@
 // Whether a board is quiet: nothing in flight is for a site that is up, the pool is empty, and every site that is up has read the whole log.
 // Rests on machine, arrays, flight, site, masks and sets. It is answered for every board value: a place past the array is a site that has read nothing.
-ghost use Rattle.std.specs.Prelude.{ℕ, ◌≤◌, ◌≡◌, length, get_or};
+ghost use Rattle.std.specs.Prelude.{ℕ, ◌≤◌, ◌≡◌, List, length, get_or};
 ghost use Rattle.flight.specs.Flights.{cells};
 ghost use Rattle.site.specs.Sites.{sites, no_site};
 ghost use Rattle.arrays.specs.Layout.{logged_at};
+ghost use Rattle.arrays.specs.Arrays.{arrays};
 ghost use Rattle.machine.specs.Runs.{is_quiet};
 ghost use Rattle.machine.specs.View.{view};
 ghost use Rattle.machine.specs.QuietParts.{up_byte, place_in, all_have_read, quiet_by};
@@ -86,7 +87,7 @@ pub fn is_quiet(board: Board) -> bool
 // The same of a board at work.
 pub fn is_quiet_at(board: &Arrays, setup: Setup) -> bool
     requires { (setup.n ≤ sites) × (length board.now.masks ≡ cells) }
-    ensures { result ≡ is_quiet (view setup board.now) }
+    ensures { (amounts good carried : List ℕ) → result ≡ is_quiet (view setup (arrays board.now.sets board.now.counts board.now.bytes amounts board.now.masks good carried)) }
 {
     let pool = load(&board.sets, POOL);
     quiet_by(

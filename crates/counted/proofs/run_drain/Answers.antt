@@ -19,5 +19,5 @@ returns-in-Ok c =
 pub returns-in-Err : goal.returns-in-Err
 returns-in-Err c =
     let g = c.args in
-    let shown = refused_none g.input.now g.limit g.out.now _ c.in-Err.ensures (is_refusal c.in-Err.field-0) in
+    let shown = refused_none g.input.now g.limit g.out.now _ c.in-Err.ensures (is_refusal c.in-Err.field-0.refusal) in
     record { value = shown.0; out_after = shown.1 }

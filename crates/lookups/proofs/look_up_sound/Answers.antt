@@ -13,7 +13,8 @@ look_up_at-requires c =
 pub returns : goal.returns
 returns c =
     let laid = c.lay_out-arrays.ensures in
+    let a = c.lay_out-arrays.result in
     let looked = c.look_up_at in
     let gives = gives_on looked.result.answer looked.result.visited looked.new.out c.args.pairs.now c.args.out.now laid.0
-    (looked.ensures (ap is_sound laid.0 ∙ c.requires)) in
+    (looked.ensures a.sets a.masks a.good a.carried (ap is_sound laid.0 ∙ c.requires)) in
     record { answer_value = gives.0; visited_value = gives.1; out_after = gives.2 }

@@ -53,11 +53,12 @@ look_up_at-looked-requires c =
 pub returns : goal.returns
 returns c =
     let at = (goal.at.returns c).After-run_events in
+    let a = left at in
     let looked = c.look_up_at-looked in
     let pairs = c.args.pairs.now in
     let out = c.args.out.now in
     let filled = looked.new.out in
     let shown = looked_gives (running (fresh_board (setup at)) (calls at)) pairs out looked.result.answer looked.result.visited filled
-    (gives_on looked.result.answer looked.result.visited filled pairs out (shows at) (looked.ensures (sound at)))
+    (gives_on looked.result.answer looked.result.visited filled pairs out (shows at) (looked.ensures a.sets a.masks a.good a.carried (sound at)))
     c.answer_of.result c.answer_of.ensures in
     record { value = shown.0; out_after = shown.1 }

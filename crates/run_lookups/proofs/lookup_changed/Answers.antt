@@ -43,5 +43,5 @@ unfolding looked_changed
 returns-in-Err c =
     let g = c.args in
     let count = c.count_or.ensures ∙ ap (λ (why : ℕ). count_or why 0) c.number.ensures in
-    let shown = refused_gives g.input.now g.out.now _ c.in-Err.ensures _ (is_refusal c.in-Err.refusal) c.count_or.result count in
+    let shown = refused_gives g.input.now g.out.now _ c.in-Err.ensures _ (is_refusal c.in-Err.not_begun.refusal) c.count_or.result count in
     record { value = shown.0; out_after = shown.1 }

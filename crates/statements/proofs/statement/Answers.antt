@@ -23,6 +23,6 @@ returns-in-Err c =
     let g = c.args in
     let line = ap refused_line c.number.ensures in
     let shown =
-    printed_as g.out.now (line ∙ refused_stated g.input.now _ c.in-Err.ensures (is_refusal c.in-Err.refusal))
+    printed_as g.out.now (line ∙ refused_stated g.input.now _ c.in-Err.ensures (is_refusal c.in-Err.not_begun.refusal))
     (c.print_refused.ensures.value, (c.print_refused.ensures.out_after, c.print_refused.ensures.result_value)) in
     record { value = shown.0; out_after = shown.1.0; result_value = shown.1.1 }

@@ -87,6 +87,6 @@ returns c =
     let a = left at in
     let shown = printed_as c.args.out.now
     (run_printed (fresh_board (setup at)) (view (setup at) a) (calls_of (file at)) (take (count at) (numbers at)) _ _ (shown at) (answered at)
-    c.is_quiet_at-quiet.ensures (c.ended_on-ended.ensures (setup at) refl))
+    (c.is_quiet_at-quiet.ensures a.amounts a.good a.carried) (c.ended_on-ended.ensures (setup at) refl))
     (c.print_run.ensures.value, (c.print_run.ensures.out_after, c.print_run.ensures.result_value)) in
     record { value = shown.0; out_after = shown.1.0; result_value = shown.1.1 }
