@@ -16,10 +16,10 @@ pub returns-in_default-e : goal.returns-in_default-e
 unfolding line_code agrees
 returns-in_default-e c = search (rules, tests)
 
-pub returns-then-store-x-4 : goal.returns-then-store-x-4
+pub returns-then-postings-x-4 : goal.returns-then-postings-x-4
 unfolding line_code agrees
-returns-then-store-x-4 c = search (rules, tests)
+returns-then-postings-x-4 c = search (rules, tests)
 
-pub returns-else-store-x : goal.returns-else-store-x
+pub returns-else-postings-x : goal.returns-else-postings-x
 unfolding line_code agrees
-returns-else-store-x c = search (rules, tests)
+returns-else-postings-x c = search (rules, tests)
