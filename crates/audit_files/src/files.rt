@@ -1,6 +1,7 @@
 // Files read: postings into slices by their numbers, and a record's lines behind those of the sites before it; with the first refusal.
 // Rests on entries for lines, on audit_input for numbers without a posting, on posting for the field rule.
-ghost use Rattle.std.specs.Prelude.{◌≡◌, ◌+◌, ◌<◌, ◌≤◌, length, get_or, set, cond, leb};
+ghost use Rattle.std.specs.Prelude.{ℕ, List, ◌≡◌, ◌+◌, ◌<◌, ◌≤◌, length, get_or, set, cond, leb};
+ghost use Rattle.audit_pair.specs.Pair.{Fields};
 ghost use Rattle.audit_files.specs.Entries.{line_feed, past, bare, first_line, headed, top_line, entries, number_in};
 ghost use Rattle.audit_files.specs.Files.{refusing, nothing, lower, where_is, kept, posting_code, kept_all, postings_refused, line_code, lines_refused, record_lines, with_lines};
 ghost use Rattle.audit_files.specs.Room.{Room};
@@ -30,6 +31,7 @@ const UNKNOWN: u8 = 7;
 const OTHER_FIELDS: u8 = 8;
 
 // The postings read so far, by number: their fields, and where each was read, 8 times the line, and the file.
+// A caller lends the arrays of one, or any slices as long.
 #[derive(Drop)]
 pub struct Store {
     pub kinds: [u8; POSTINGS],
@@ -236,10 +238,10 @@ pub fn read_postings(
     refused
 }
 
-// The first of refusals 4, 7 and 8 that applies to a line of a record; 0 if none does.
-fn line_code(e: Entry, postings: Postings, wheres: &[u32]) -> u8
-    requires { Room postings.kinds.now postings.firsts.now postings.seconds.now postings.amounts.now wheres.now }
-    ensures { result ≡ line_code (store postings.entry.kinds.now postings.entry.firsts.now postings.entry.seconds.now postings.entry.amounts.now wheres.now) e }
+// The first of refusals 4, 7 and 8 that applies to a line of a record; 0 if none does. Where postings were read has no part in it.
+fn line_code(e: Entry, postings: Postings) -> u8
+    requires { Fields postings.kinds.now postings.firsts.now postings.seconds.now postings.amounts.now }
+    ensures { (wheres : List ℕ) → result ≡ line_code (store postings.entry.kinds.now postings.entry.firsts.now postings.entry.seconds.now postings.entry.amounts.now wheres) e }
 {
     if let Entry::Malformed = e {
         return MALFORMED;
@@ -274,7 +276,7 @@ fn judge_line(file: usize, line: usize, e: Entry, postings: Postings, wheres: &[
     requires { Room postings.kinds.now postings.firsts.now postings.seconds.now postings.amounts.now wheres.now }
     ensures { result ≡ refusing (line_code (store postings.entry.kinds.now postings.entry.firsts.now postings.entry.seconds.now postings.entry.amounts.now wheres.now) e) file line (number_in e) (get_or wheres.now (number_in e) 0) }
 {
-    let code = line_code(e, postings, wheres);
+    let code = line_code(e, postings);
     let x = usize::from(e.number());
     refusing(code, file, line, x, wheres[x] as usize)
 }
