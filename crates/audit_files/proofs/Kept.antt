@@ -56,7 +56,7 @@ at s x = posting_at s.kinds s.firsts s.seconds s.amounts x
 abbrev pub Roomy : Store → Type 0
 Roomy s = Room s.kinds s.firsts s.seconds s.amounts s.wheres
 
-kept_roomy : (file line : ℕ) (e : Entry) (s : Store) → Roomy s → Roomy (kept file line e s)
+pub kept_roomy : (file line : ℕ) (e : Entry) (s : Store) → Roomy s → Roomy (kept file line e s)
 unfolding kept
 kept_roomy file line e s r = elim (test (keeps e s.kinds)) [
   | inr f ↦ rw f r

@@ -1,7 +1,7 @@
 -- What the loops over a file's lines keep: all that the file does is what its lines have done, and what those that are left will do.
--- Rests on Files, Steps and FileLaws. Assumes nothing.
+-- Rests on Files, Steps, FileLaws and Kept. Assumes nothing.
 use Prim.Native.Nat.{ℕ, suc, ◌+◌, ◌-◌, ◌<◌, ◌≤◌}
-use mathlib.Core.Path.{◌≡◌, refl, sym, ap, ◌∙◌}
+use mathlib.Core.Path.{◌≡◌, refl, sym, ap, ◌∙◌, subst}
 use mathlib.Core.Logic.{inl, inr}
 use mathlib.Core.Bool.{Bool, cond}
 use mathlib.Core.List.{List, [], ◌∷◌, append_assoc}
@@ -19,6 +19,7 @@ use Rattle.audit_files.specs.Entries.{line_feed, past, first_line, entry_of, hea
 use Rattle.audit_files.specs.Files.{refusing, nothing, lower, kept, posting_code, kept_all, postings_refused, line_code, lines_refused, numbers_of, most_lines, record_lines, with_lines}
 use Rattle.audit_files.specs.Steps.{entries_in}
 use Rattle.audit_files.proofs.FileLaws.{past_shorter, lines_next, lines_end}
+use Rattle.audit_files.proofs.Kept.{Roomy, kept_roomy}
 
 -- ---- the number of a line
 
@@ -32,13 +33,16 @@ module _ (own : Bool) (file : ℕ) (text : List ℕ) (s₀ : Store) where
   -- what is kept of the lines so far, and their first refusal
   pub record Noting (s : Store) (refused : Refused) (line : ℕ) (rest : List ℕ) : Type 0 where
     pub few : line + length rest ≤ length text + 2
+    pub room : Roomy s
     pub keeps_all : kept_all file line (entries_in rest) s ≡ kept_all file (top_line text) (entries text) s₀
     pub refuses_all : postings_refused own file line (entries_in rest) s refused ≡ postings_refused own file (top_line text) (entries text) s₀ nothing
 
   pub noting_start : {refused : Refused} {line : ℕ} {rest : List ℕ} → refused ≡ nothing → line ≡ top_line text → (length rest ≤ length text) × (entries_in rest ≡ entries text)
+      → Roomy s₀
       → Noting s₀ refused line rest
-  noting_start {refused} {line} {rest} refused-is line_is rest-is = let m = top_most text in record {
+  noting_start {refused} {line} {rest} refused-is line_is rest-is roomy = let m = top_most text in record {
     few = omega (arith, line_is, m, rest-is.0);
+    room = roomy;
     keeps_all = ap (λ (n : ℕ). kept_all file n (entries_in rest) s₀) line_is ∙ ap (λ (l : List Entry). kept_all file (top_line text) l s₀) rest-is.1;
     refuses_all = ap (λ (z : Refused). postings_refused own file line (entries_in rest) s₀ z) refused-is ∙ ap (λ (n : ℕ). postings_refused own file n (entries_in rest) s₀ nothing) line_is ∙ ap (λ (l : List Entry). postings_refused own file (top_line text) l s₀ nothing) rest-is.1;
   }
@@ -56,6 +60,7 @@ module _ (own : Bool) (file : ℕ) (text : List ℕ) (s₀ : Store) where
         let here : e ∷ left ≡ entries_in rest = rw (e-is, next-is) (sym (lines_next rest h)) in
         record {
           few = omega (arith, shorter, few);
+          room = subst Roomy (sym kept-is) (kept_roomy file line e s so_far.room);
           keeps_all =
               ap (λ (n : ℕ). kept_all file n left s') (add-one line)
               ∙ ap (λ (z : Store). kept_all file (suc line) left z) kept-is

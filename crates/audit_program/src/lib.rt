@@ -156,7 +156,16 @@ fn read_own(own: bool, file: usize, text: &[u8], store: &mut Store) -> Refused
     requires { (file ≤ 7) × (length text.now ≤ 2_097_152) }
 {
     if own {
-        read_postings(true, file, text, store)
+        read_postings(
+            true,
+            file,
+            text,
+            &mut store.kinds,
+            &mut store.firsts,
+            &mut store.seconds,
+            &mut store.amounts,
+            &mut store.wheres,
+        )
     } else {
         nothing()
     }
@@ -188,7 +197,13 @@ fn read_site(
     };
     tops[p] = top_line(&text[..n]) as u8;
     let brought = read_own(own, p + 1, &text[..n], store);
-    let read = read_record(p + 1, &text[..n], store, lines, from);
+    let postings = Postings {
+        kinds: &store.kinds,
+        firsts: &store.firsts,
+        seconds: &store.seconds,
+        amounts: &store.amounts,
+    };
+    let read = read_record(p + 1, &text[..n], postings, &store.wheres, lines, from);
     let refused = lower(brought, read.refused);
     Read {
         count: read.count,
@@ -237,7 +252,16 @@ fn read_first(
         return nothing();
     }
     match load(rt, number, text) {
-        Ok(n) => read_postings(false, 0, &text[..n], store),
+        Ok(n) => read_postings(
+            false,
+            0,
+            &text[..n],
+            &mut store.kinds,
+            &mut store.firsts,
+            &mut store.seconds,
+            &mut store.amounts,
+            &mut store.wheres,
+        ),
         Err(why) => not_read(0, why),
     }
 }
