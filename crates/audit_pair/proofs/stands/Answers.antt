@@ -20,6 +20,6 @@ pub returns-then-i-j-2 : goal.returns-then-i-j-2
 returns-then-i-j-2 c =
     let v = c.args in stands_forth v.x v.y v.lines.now c.place_of-i.ensures c.place_of-j.ensures c.if-i-j.false c.if-i-end.false c.if-j-end.false c.if-i-j-2.true
 
-pub returns : goal.returns
-returns c =
+pub returns-else-i-j-2 : goal.returns-else-i-j-2
+returns-else-i-j-2 c =
     let v = c.args in stands_back v.x v.y v.lines.now c.place_of-i.ensures c.place_of-j.ensures c.if-i-j.false c.if-i-end.false c.if-j-end.false (omega (arith, c.if-i-j-2.false))
