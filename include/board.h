@@ -20,8 +20,8 @@ extern "C" {
    as it was. Where it writes to the first elements of a slice, those beyond stay. Only the three slices that
    board_audit_records is lent to work in hold anything after the call.
 
-   STACK. board_run_by_value, board_lookup_changed and board_call_changed take some 1.5 MB of the caller's stack; every
-   other function takes less than 150 kB. Nothing is allocated.
+   STACK. board_call_changed takes some 1.6 MB of the caller's stack, board_run_by_value 1.3 MB and board_lookup_changed
+   1 MB; every other function takes less than 150 kB. Nothing is allocated.
 
    A POSTING has an owner (the site that offered it), a kind, accounts a and b, and an amount. Accounts are 0 to 15.
 

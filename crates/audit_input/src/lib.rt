@@ -148,7 +148,6 @@ pub fn unused(kinds: &[u8], x: usize) -> bool
 
 // Whether a posting is there whose fields are outside their row.
 #[tactic(auto, unfolding(crate::specs::Input::unlawful, crate::specs::Input::unused))]
-#[inline(always)]
 fn unlawful(postings: Postings, x: usize) -> bool
     requires { Fields postings.kinds.now postings.firsts.now postings.seconds.now postings.amounts.now × (x < length postings.kinds.now) }
     ensures { result ≡ unlawful postings.entry.kinds.now postings.entry.firsts.now postings.entry.seconds.now postings.entry.amounts.now x }
