@@ -45,8 +45,10 @@ impl Board {
         let setup = self.setup;
         let mut arrays = lay_out(self);
         let answer = perform(&mut arrays, setup, call);
-        let board = board_of(&arrays, setup);
-        Taken { board, answer }
+        Taken {
+            board: board_of(&arrays, setup),
+            answer,
+        }
     }
 
     // A call, which answers so where it is accepted. An unsound board is refused. Inlined: a board has 95 kB, and each call hands it over whole.
@@ -61,8 +63,7 @@ impl Board {
                 answer: Answer::Refused(Refusal::Unsound.number()),
             };
         }
-        let taken = self.take(call);
-        outcome(taken, accepted)
+        outcome(self.take(call), accepted)
     }
 
     // Offer: the posting gets its number; FIRST goes to all n sites.

@@ -17,5 +17,5 @@ perform-answer-requires c =
 pub returns : goal.returns
 returns c =
     let laid = c.lay_out-arrays.ensures in
-    let taken = taken_call c.args.self _ _ c.args.call _ c.requires laid.0 laid.1 c.perform-answer.ensures _ c.board_of-board.ensures in
+    let taken = taken_call c.args.self _ _ c.args.call _ c.requires laid.0 laid.1 c.perform-answer.ensures _ c.board_of.ensures in
     record { board_value = taken.0; answer_value = taken.1 }
