@@ -33,16 +33,13 @@ module _ (own : Bool) (file : ℕ) (text : List ℕ) (s₀ : Store) where
   -- what is kept of the lines so far, and their first refusal
   pub record Noting (s : Store) (refused : Refused) (line : ℕ) (rest : List ℕ) : Type 0 where
     pub few : line + length rest ≤ length text + 2
-    pub room : Roomy s
     pub keeps_all : kept_all file line (entries_in rest) s ≡ kept_all file (top_line text) (entries text) s₀
     pub refuses_all : postings_refused own file line (entries_in rest) s refused ≡ postings_refused own file (top_line text) (entries text) s₀ nothing
 
   pub noting_start : {refused : Refused} {line : ℕ} {rest : List ℕ} → refused ≡ nothing → line ≡ top_line text → (length rest ≤ length text) × (entries_in rest ≡ entries text)
-      → Roomy s₀
       → Noting s₀ refused line rest
-  noting_start {refused} {line} {rest} refused-is line_is rest-is roomy = let m = top_most text in record {
+  noting_start {refused} {line} {rest} refused-is line_is rest-is = let m = top_most text in record {
     few = omega (arith, line_is, m, rest-is.0);
-    room = roomy;
     keeps_all = ap (λ (n : ℕ). kept_all file n (entries_in rest) s₀) line_is ∙ ap (λ (l : List Entry). kept_all file (top_line text) l s₀) rest-is.1;
     refuses_all = ap (λ (z : Refused). postings_refused own file line (entries_in rest) s₀ z) refused-is ∙ ap (λ (n : ℕ). postings_refused own file n (entries_in rest) s₀ nothing) line_is ∙ ap (λ (l : List Entry). postings_refused own file (top_line text) l s₀ nothing) rest-is.1;
   }
@@ -60,7 +57,6 @@ module _ (own : Bool) (file : ℕ) (text : List ℕ) (s₀ : Store) where
         let here : e ∷ left ≡ entries_in rest = rw (e-is, next-is) (sym (lines_next rest h)) in
         record {
           few = omega (arith, shorter, few);
-          room = subst Roomy (sym kept-is) (kept_roomy file line e s so_far.room);
           keeps_all =
               ap (λ (n : ℕ). kept_all file n left s') (add-one line)
               ∙ ap (λ (z : Store). kept_all file (suc line) left z) kept-is
@@ -81,6 +77,29 @@ module _ (own : Bool) (file : ℕ) (text : List ℕ) (s₀ : Store) where
           ap (λ (l : List Entry). postings_refused own file line l s refused) none ∙ so_far.refuses_all,
           ap (λ (l : List Entry). kept_all file line l s) none ∙ so_far.keeps_all,
         )
+
+  -- the same in slices that have a place for every number
+  pub record RoomyNoting (s : Store) (refused : Refused) (line : ℕ) (rest : List ℕ) : Type 0 where
+    pub noting : Noting s refused line rest
+    pub room : Roomy s
+
+  pub roomy_start : {refused : Refused} {line : ℕ} {rest : List ℕ} → refused ≡ nothing → line ≡ top_line text → (length rest ≤ length text) × (entries_in rest ≡ entries text)
+      → Roomy s₀
+      → RoomyNoting s₀ refused line rest
+  roomy_start refused-is line_is rest-is roomy = record { noting = noting_start refused-is line_is rest-is; room = roomy }
+
+  module _ {s : Store} {refused : Refused} {line : ℕ} {rest : List ℕ} (so_far : RoomyNoting s refused line rest) where
+    pub roomy_next : {s' : Store} {refused' : Refused} (e : Entry) {next : List ℕ} → 0 < length rest → e ≡ entry_of (first_line rest) → next ≡ past line_feed rest
+        → s' ≡ kept file line e s
+        → refused' ≡ lower refused (refusing (posting_code own s.kinds e) file line (number_in e) (get_or s.wheres (number_in e) 0))
+        → RoomyNoting s' refused' (line + 1) next
+    roomy_next e h e-is next-is kept-is refused-is = record {
+      noting = noting_next so_far.noting e h e-is next-is kept-is refused-is;
+      room = subst Roomy (sym kept-is) (kept_roomy file line e s so_far.room);
+    }
+
+    pub roomy_end : length rest ≡ 0 → (refused ≡ postings_refused own file (top_line text) (entries text) s₀ nothing) × (s ≡ kept_all file (top_line text) (entries text) s₀)
+    roomy_end h = noting_end so_far.noting h
 
 -- ---- a record's lines
 
